@@ -2,7 +2,7 @@
 use crate::disk::MemoryDisk;
 use crate::files::Stored;
 use blob_store::disk::{Kind, Stamp, Told};
-use blob_store::{BlobFault, Blobs, Folder};
+use blob_store::{BlobFault, Blobs, Folder, is_blob_name};
 use std::alloc::Global;
 use std::test::Fail;
 
@@ -71,6 +71,9 @@ fn does(alloc: Global, folder: &mut Folder<MemoryDisk>, row: &str) -> Result<boo
         Some((name, bytes)) => (name, Some(bytes.as_bytes())),
         None => (file, None),
     };
+    if !is_blob_name(name) {
+        return Err(row.into());
+    }
     if call == "put" {
         folder.replace(alloc, name, bytes.unwrap_or(b""))?;
         return Ok(true);
