@@ -1,5 +1,4 @@
 pub mod Cuts
-pub mod Telling
 pub mod Done
 pub mod Reached
 pub mod Follows

@@ -4,9 +4,8 @@ use Rattle.std.specs.List.{filter, enumerate_from}
 use Rattle.std.specs.Option.{MatchOption}
 use Rattle.std.proofs.lemmas.List.{map-append}
 use Rattle.med_session.specs.Requests.{AskedLine, opening, sql}
-use Rattle.session_wire.specs.Run.{Steps}
 use Rattle.fed_replay.specs.Scripts.{Numbered, lines_of, is_blank, has_statement, statement_lines}
-use Rattle.fed_replay.specs.Replays.{requests_of, IsDone, AreDone, Ends, Runs}
+use Rattle.fed_replay.specs.Replays.{Answers, requests_of, IsDone, AreDone, Ends, Runs}
 use Rattle.fed_replay.specs.declared.script.ScriptFault.{ScriptFault}
 use Rattle.fed_replay.proofs.Done.{done_more}
 
@@ -21,7 +20,7 @@ size None = 0
 size (Some text) = suc (length text.now)
 
 -- some statements are done, and counted, and these are left
-pub record Reached {W : Type 0} (step : Steps W) (old : W) (owner script : List ℕ) (new : W) (number count : ℕ) (rest : Option (Bor (List ℕ))) : Type 0 where
+pub record Reached {W : Type 0} (step : Answers W) (old : W) (owner script : List ℕ) (new : W) (number count : ℕ) (rest : Option (Bor (List ℕ))) : Type 0 where
   pub lines : List Numbered
   pub split : statement_lines script ≡ lines ++ left number rest
   pub run : AreDone step old (requests_of owner lines) new
@@ -46,7 +45,7 @@ smaller : (number n m l : ℕ) → number + suc n ≤ l + 1 → m ≤ n → numb
 smaller number n m l h k = omega arith
 
 -- a blank line is passed over
-pub passed : {W : Type 0} (step : Steps W) (old : W) (owner script : List ℕ) (new : W) (number count : ℕ) (text : Bor (List ℕ)) (line : List ℕ) (after : Option (Bor (List ℕ)))
+pub passed : {W : Type 0} (step : Answers W) (old : W) (owner script : List ℕ) (new : W) (number count : ℕ) (text : Bor (List ℕ)) (line : List ℕ) (after : Option (Bor (List ℕ)))
     → Reached step old owner script new number count (Some text) → IsCut text.now line after → is_blank line ≡ true → Reached step old owner script new (number + 1) count after
 passed step old owner script new number count text line after h cut blank = record {
   lines = h.lines;
@@ -58,7 +57,7 @@ passed step old owner script new number count text line after h cut blank = reco
 }
 
 -- the next statement is the first that is left
-next_left : {W : Type 0} (step : Steps W) (old : W) (owner script : List ℕ) (new : W) (number count : ℕ) (text : Bor (List ℕ)) (line : List ℕ) (after : Option (Bor (List ℕ)))
+next_left : {W : Type 0} (step : Answers W) (old : W) (owner script : List ℕ) (new : W) (number count : ℕ) (text : Bor (List ℕ)) (line : List ℕ) (after : Option (Bor (List ℕ)))
     → (h : Reached step old owner script new number count (Some text)) → IsCut text.now line after → is_blank line ≡ false
     → statement_lines script ≡ h.lines ++ ((number + 1, line) ∷ left (number + 1) after)
 next_left step old owner script new number count text line after h cut filled =
@@ -68,7 +67,7 @@ requests_more : (owner : List ℕ) (lines more : List Numbered) → requests_of 
 requests_more owner lines more = ap (λ rs. (0, opening owner) ∷ rs) (map-append (λ (l : Numbered). let r : ℕ × AskedLine = (l.0, sql l.1) in r) lines more)
 
 -- a statement is done
-pub done_next : {W : Type 0} (step : Steps W) (old : W) (owner script : List ℕ) (mid new : W) (number count : ℕ) (text : Bor (List ℕ)) (line : List ℕ) (after : Option (Bor (List ℕ)))
+pub done_next : {W : Type 0} (step : Answers W) (old : W) (owner script : List ℕ) (mid new : W) (number count : ℕ) (text : Bor (List ℕ)) (line : List ℕ) (after : Option (Bor (List ℕ)))
     → Reached step old owner script mid number count (Some text) → IsCut text.now line after → is_blank line ≡ false → IsDone step mid (sql line) new
     → Reached step old owner script new (number + 1) (count + 1) after
 done_next step old owner script mid new number count text line after h cut filled done = record {
@@ -82,7 +81,7 @@ done_next step old owner script mid new number count text line after h cut fille
 }
 
 -- a statement ends the replay
-pub ends_next : {W : Type 0} (step : Steps W) (old : W) (owner script : List ℕ) (mid new : W) (number count : ℕ) (text : Bor (List ℕ)) (line : List ℕ) (after : Option (Bor (List ℕ))) (why : ScriptFault)
+pub ends_next : {W : Type 0} (step : Answers W) (old : W) (owner script : List ℕ) (mid new : W) (number count : ℕ) (text : Bor (List ℕ)) (line : List ℕ) (after : Option (Bor (List ℕ))) (why : ScriptFault)
     → Reached step old owner script mid number count (Some text) → IsCut text.now line after → is_blank line ≡ false → Ends step mid (number + 1, sql line) why new
     → Runs step old owner (statement_lines script) (Err why) new
 ends_next step old owner script mid new number count text line after why h cut filled ends = record {
@@ -96,7 +95,7 @@ ends_next step old owner script mid new number count text line after why h cut f
 }
 
 -- the opening does
-pub ends_first : {W : Type 0} (step : Steps W) (old : W) (owner : List ℕ) (lines : List Numbered) (new : W) (why : ScriptFault)
+pub ends_first : {W : Type 0} (step : Answers W) (old : W) (owner : List ℕ) (lines : List Numbered) (new : W) (why : ScriptFault)
     → Ends step old (0, opening owner) why new → Runs step old owner lines (Err why) new
 ends_first step old owner lines new why ends = record {
   before = [];
@@ -109,7 +108,7 @@ ends_first step old owner lines new why ends = record {
 }
 
 -- the session is open, and no line was read
-pub opened : {W : Type 0} (step : Steps W) (old : W) (owner : List ℕ) (script : Bor (List ℕ)) (new : W) → IsDone step old (opening owner) new
+pub opened : {W : Type 0} (step : Answers W) (old : W) (owner : List ℕ) (script : Bor (List ℕ)) (new : W) → IsDone step old (opening owner) new
     → Reached step old owner script.now new 0 0 (Some script)
 opened step old owner script new done = record {
   lines = [];
@@ -121,7 +120,7 @@ opened step old owner script new done = record {
 }
 
 -- all lines were read
-pub all_done : {W : Type 0} (step : Steps W) (old : W) (owner script : List ℕ) (new : W) (number count : ℕ)
+pub all_done : {W : Type 0} (step : Answers W) (old : W) (owner script : List ℕ) (new : W) (number count : ℕ)
     → Reached step old owner script new number count None → Runs step old owner (statement_lines script) (Ok count) new
 all_done step old owner script new number count h =
     let same : statement_lines script ≡ h.lines = h.split ∙ append-nil h.lines in
@@ -132,7 +131,7 @@ pub filled : (b blank : Bool) → b ≡ blank → b ≡ false → blank ≡ fals
 filled b blank e h = sym e ∙ h
 
 -- the rest is known
-pub reached_at : {W : Type 0} {step : Steps W} {old : W} {owner script : List ℕ} {new : W} {number count : ℕ} {rest at : Option (Bor (List ℕ))}
+pub reached_at : {W : Type 0} {step : Answers W} {old : W} {owner script : List ℕ} {new : W} {number count : ℕ} {rest at : Option (Bor (List ℕ))}
     → Reached step old owner script new number count rest → rest ≡ at → Reached step old owner script new number count at
 reached_at {step = step} {old = old} {owner = owner} {script = script} {new = new} {number = number} {count = count} h e =
     subst (λ r. Reached step old owner script new number count r) e h

@@ -2,7 +2,6 @@
 #![tactic(auto)]
 
 mod lines;
-mod refusals;
 pub mod script;
 
 pub use script::{ScriptFault, replay};

@@ -5,18 +5,17 @@ ghost use Rattle.med_session.specs.World.{World};
 ghost use Rattle.med_session.specs.Engine.{IsSound, Agrees};
 ghost use Rattle.med_world.specs.Seats.{user_of};
 ghost use Rattle.med_session.specs.Shows.{shown};
-ghost use Rattle.session_wire.specs.Engines.{EngineSteps, EngineRises};
-ghost use Rattle.session_wire.specs.Worlds.{scene_of, SceneSteps};
+ghost use Rattle.session_wire.specs.Engines.{EngineRises};
+ghost use Rattle.session_wire.specs.Worlds.{scene_of};
 ghost use Rattle.fed_replay.specs.Scripts.{statement_lines};
 ghost use Rattle.fed_replay.specs.Replays.{session, IsDone, Ends, Runs, Replays};
-ghost use Rattle.fed_replay.specs.Engines.{EngineCloses, SceneCloses};
+ghost use Rattle.fed_replay.specs.Engines.{EngineAnswers, EngineCloses, SceneAnswers, SceneCloses};
 
 use crate::lines::{is_blank, next_line};
-use crate::refusals::refusal_in;
 use fdw_api::wishes::Wrapper2;
 use med_session::{Engine, Request, Sid};
 use med_value::Cause;
-use std::alloc::Global;
+use session_replies::Outcome;
 use thiserror::Error;
 
 /// Why a replay ended before the end of its script.
@@ -28,8 +27,8 @@ pub enum ScriptFault {
     /// The script is not UTF-8. Nothing of it was run.
     #[error("not UTF-8")]
     NotText,
-    /// The line of this number was refused with this cause, which is not want of memory. The lines before it stay done. Causes of
-    /// several phases with one code are told by the first of them. Number 0 stands for the opening of the session.
+    /// The line of this number was refused with this cause, which is not want of memory. The lines before it stay done. Number 0 stands for
+    /// the opening of the session.
     #[error("line {0}: {code} {name}", code = .1.code(), name = .1.name())]
     Line(u64, Cause),
 }
@@ -38,22 +37,21 @@ pub enum ScriptFault {
 /// refused, and answers how many lines ran.
 ///
 /// A line ends in LF or with the script, and one CR at its end is dropped. All lines are counted from 1. The session is opened first and
-/// closed at the end, also after a refusal; the lines before a refused one stay done. Replies are not kept. Where the session is open
+/// closed at the end, also after a refusal; the lines before a refused one stay done. No reply is written. Where the session is open
 /// before, or this is no user, the opening is refused.
 ///
-/// `NotText` exactly where the script is not UTF-8: then nothing is done. `NoMemory` where a request is answered 53200, or memory is
-/// refused before it is begun. What was done is the same run of each world that agrees with the engine before.
+/// `NotText` exactly where the script is not UTF-8: then nothing is done. `NoMemory` where a request is answered 53200. What was done is the
+/// same run of each world that agrees with the engine before.
 pub fn replay<W: Wrapper2>(
-    alloc: Global,
     engine: &mut Engine<W>,
     owner: &str,
     script: &[u8],
 ) -> Result<u64, ScriptFault>
     requires { IsSound (shown W.meaning engine.old) }
     ensures sound { IsSound (shown W.meaning engine.new) }
-    ensures replays { Replays (EngineSteps W.meaning) (EngineCloses W.meaning) engine.old owner.now script.now result engine.new }
+    ensures replays { Replays (EngineAnswers W.meaning) (EngineCloses W.meaning) engine.old owner.now script.now result engine.new }
     ensures worlds { (w : World) → Agrees (shown W.meaning engine.old) w
-        → (after : World) × Replays SceneSteps SceneCloses (scene_of W.meaning engine.old w) owner.now script.now result
+        → (after : World) × Replays SceneAnswers SceneCloses (scene_of W.meaning engine.old w) owner.now script.now result
         (scene_of W.meaning engine.new after) × Agrees (shown W.meaning engine.new) after
         × (user_of (shown W.meaning engine.old).seats session ≡ None → after.sessions session ≡ None) }
     ensures rises { EngineRises W.meaning engine.old engine.new }
@@ -61,24 +59,18 @@ pub fn replay<W: Wrapper2>(
     let Ok(text) = str::from_utf8(script) else {
         return Err(ScriptFault::NotText);
     };
-    let ran = run(alloc, engine, owner, text);
+    let ran = run(engine, owner, text);
     engine.close_session(Sid { number: 64 });
     ran
 }
 
 // Opens the session, and runs the statements of a script in it.
-fn run<W: Wrapper2>(
-    alloc: Global,
-    engine: &mut Engine<W>,
-    owner: &str,
-    script: &str,
-) -> Result<u64, ScriptFault>
+fn run<W: Wrapper2>(engine: &mut Engine<W>, owner: &str, script: &str) -> Result<u64, ScriptFault>
     requires { IsSound (shown W.meaning engine.old) }
     ensures sound { IsSound (shown W.meaning engine.new) }
-    ensures runs { Runs (EngineSteps W.meaning) engine.old owner.now (statement_lines script.now) result engine.new }
+    ensures runs { Runs (EngineAnswers W.meaning) engine.old owner.now (statement_lines script.now) result engine.new }
 {
-    let mut reply = Vec::new(alloc);
-    request(engine, 0, Request::Open(owner), &mut reply)?;
+    request(engine, 0, Request::Open(owner))?;
     let mut rest = Some(script);
     let mut number = 0;
     let mut count = 0;
@@ -87,7 +79,7 @@ fn run<W: Wrapper2>(
         rest = after;
         number += 1;
         if !is_blank(line) {
-            request(engine, number, Request::Sql(line), &mut reply)?;
+            request(engine, number, Request::Sql(line))?;
             count += 1;
         }
     }
@@ -99,20 +91,15 @@ fn request<W: Wrapper2>(
     engine: &mut Engine<W>,
     number: u64,
     request: Request<'_>,
-    reply: &mut Vec<u8>,
 ) -> Result<(), ScriptFault>
     requires { IsSound (shown W.meaning engine.old) }
     ensures sound { IsSound (shown W.meaning engine.new) }
-    ensures done { OnOk result (IsDone (EngineSteps W.meaning) engine.old (asked request.entry) engine.new) }
-    ensures ends { IfErr result (λ why. Ends (EngineSteps W.meaning) engine.old (number, asked request.entry) why engine.new) }
+    ensures done { OnOk result (IsDone (EngineAnswers W.meaning) engine.old (asked request.entry) engine.new) }
+    ensures ends { IfErr result (λ why. Ends (EngineAnswers W.meaning) engine.old (number, asked request.entry) why engine.new) }
 {
-    reply.clear();
-    let Ok(()) = engine.request(Sid { number: 64 }, request, reply) else {
-        return Err(ScriptFault::NoMemory);
-    };
-    match refusal_in(reply) {
-        None => Ok(()),
-        Some(Cause::OutOfMemory) => Err(ScriptFault::NoMemory),
-        Some(cause) => Err(ScriptFault::Line(number, cause)),
+    match engine.answer(Sid { number: 64 }, request) {
+        Outcome::Refused(Cause::OutOfMemory) => Err(ScriptFault::NoMemory),
+        Outcome::Refused(cause) => Err(ScriptFault::Line(number, cause)),
+        _ => Ok(()),
     }
 }

@@ -1,9 +1,9 @@
 -- A program that begins, or does not.
 use Rattle.std.proofs.Common.{◌≡◌, ℕ, List, Option, Some, None, option_map, Result, Ok, Err, Vec, refl, sym, subst}
 use Rattle.std.specs.Global.{Global}
-use Rattle.session_wire.specs.Worlds.{Scene, SceneSteps}
+use Rattle.session_wire.specs.Worlds.{Scene}
 use Rattle.fed_replay.specs.Replays.{Replays}
-use Rattle.fed_replay.specs.Engines.{SceneCloses}
+use Rattle.fed_replay.specs.Engines.{SceneAnswers, SceneCloses}
 use Rattle.fed_replay.specs.declared.script.ScriptFault.{ScriptFault}
 use Rattle.fed_replay.specs.declared.script.ScriptFault.TheVariants as scripts
 use Rattle.fed_setup.specs.Setup.{Outside, IsFirst, HasNoFirst, ReadsNot, IsReadOf, ReplaysInit, BeginsNot, list_asked}
@@ -15,11 +15,11 @@ use Rattle.fed_words.specs.declared.words.AskedRun.{AskedRun}
 
 -- a script that is there was replayed
 pub replays_script : (o : Option (Vec ℕ Global)) (v : Vec ℕ Global) (bytes owner : List ℕ) (result : Result ℕ ScriptFault) (came : Came) (first after : Scene)
-    → o ≡ Some v → bytes ≡ v.items → came ≡ replay_told result → Replays SceneSteps SceneCloses first owner bytes result after
+    → o ≡ Some v → bytes ≡ v.items → came ≡ replay_told result → Replays SceneAnswers SceneCloses first owner bytes result after
     → ReplaysInit first owner (option_map (λ v. v.items) o) came after
 replays_script o v bytes owner result came first after is items told replays =
     subst (λ p. ReplaysInit first owner (option_map (λ v. v.items) p) came after) (sym is)
-    (result, told, subst (λ bs. Replays SceneSteps SceneCloses first owner bs result after) items replays)
+    (result, told, subst (λ bs. Replays SceneAnswers SceneCloses first owner bs result after) items replays)
 
 -- there is no first world
 pub no_first_world : (outside : Outside) (asked : AskedRun) (script : Option (List ℕ)) (fault : RunFault) → HasNoFirst outside asked fault → BeginsNot outside asked script fault

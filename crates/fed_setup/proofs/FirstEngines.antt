@@ -22,9 +22,9 @@ use Rattle.blob_store.specs.Shelves.{Shelf}
 use Rattle.blob_store.specs.Files.{folder_shelf}
 use Rattle.csv_wrapper.specs.CsvBoxes.{IsNewCsv}
 use Rattle.jsonl_wrapper.specs.Boxes.{IsNewJsonl}
-use Rattle.session_wire.specs.Worlds.{Scene, SceneSteps}
+use Rattle.session_wire.specs.Worlds.{Scene}
 use Rattle.fed_replay.specs.Replays.{Replays}
-use Rattle.fed_replay.specs.Engines.{SceneCloses}
+use Rattle.fed_replay.specs.Engines.{SceneAnswers, SceneCloses}
 use Rattle.fed_replay.specs.declared.script.ScriptFault.{ScriptFault}
 use Rattle.fed_replay.specs.declared.script.ScriptFault.TheVariants as scripts
 use Rattle.fed_setup.specs.Demo.{demo_list, setup_script}
@@ -185,11 +185,11 @@ place_not_added labels asked adding.TooMany told e h = subst (λ f. IsNotAdded l
 
 -- a replay of the script is one of its text
 pub sets_up : (old listed new : Scene) (owner name script : List ℕ) (came : Result ℕ ScriptFault) → HasList old name listed → script ≡ setup_script name
-    → Replays SceneSteps SceneCloses listed owner script came new → SetsUp old owner name came new
+    → Replays SceneAnswers SceneCloses listed owner script came new → SetsUp old owner name came new
 sets_up old listed new owner name script came has is replays = record {
   listed = listed;
   has_list = has;
-  replays = subst (λ s. Replays SceneSteps SceneCloses listed owner s came new) is replays;
+  replays = subst (λ s. Replays SceneAnswers SceneCloses listed owner s came new) is replays;
 }
 
 -- every line of it is done
@@ -312,20 +312,20 @@ set_up_none None old owner none = refl
 set_up_none (Some x) old owner none = absurd (none x refl)
 
 pub set_up_done : (list : Option (Bor (List ℕ))) (name : Bor (List ℕ)) (old new : Scene) (owner script : List ℕ) (count : ℕ) (came : Result ℕ ScriptFault) → list ≡ Some name
-    → script ≡ setup_script name.now → came ≡ Ok count → Replays SceneSteps SceneCloses old owner script came new → IsSetUp old owner (option_map (λ s. s.now) list) new
+    → script ≡ setup_script name.now → came ≡ Ok count → Replays SceneAnswers SceneCloses old owner script came new → IsSetUp old owner (option_map (λ s. s.now) list) new
 set_up_done list name old new owner script count came is text e replays =
     subst (λ p. IsSetUp old owner (option_map (λ s. s.now) p) new) (sym is)
     (record {
       count = count;
-      replays = subst (λ r. Replays SceneSteps SceneCloses old owner (setup_script name.now) r new) e (subst (λ s. Replays SceneSteps SceneCloses old owner s came new) text replays);
+      replays = subst (λ r. Replays SceneAnswers SceneCloses old owner (setup_script name.now) r new) e (subst (λ s. Replays SceneAnswers SceneCloses old owner s came new) text replays);
     })
 
 pub set_up_refused : (name : Bor (List ℕ)) (old new : Scene) (owner script : List ℕ) (why : ScriptFault) (came : Result ℕ ScriptFault)
-    → script ≡ setup_script name.now → came ≡ Err why → why ≢ scripts.NoMemory → Replays SceneSteps SceneCloses old owner script came new → IsNotSetUp old owner name.now
+    → script ≡ setup_script name.now → came ≡ Err why → why ≢ scripts.NoMemory → Replays SceneAnswers SceneCloses old owner script came new → IsNotSetUp old owner name.now
 set_up_refused name old new owner script why came text e other replays =
     record {
       why = why;
       other = other;
       new = new;
-      replays = subst (λ r. Replays SceneSteps SceneCloses old owner (setup_script name.now) r new) e (subst (λ s. Replays SceneSteps SceneCloses old owner s came new) text replays);
+      replays = subst (λ r. Replays SceneAnswers SceneCloses old owner (setup_script name.now) r new) e (subst (λ s. Replays SceneAnswers SceneCloses old owner s came new) text replays);
     }

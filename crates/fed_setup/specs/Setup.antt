@@ -13,9 +13,9 @@ use Rattle.blob_store.specs.Known.{Sure}
 use Rattle.list_wrapper.specs.Lists.{IsNewList}
 use Rattle.csv_wrapper.specs.CsvBoxes.{IsNewCsv}
 use Rattle.jsonl_wrapper.specs.Boxes.{IsNewJsonl}
-use Rattle.session_wire.specs.Worlds.{Scene, SceneSteps}
+use Rattle.session_wire.specs.Worlds.{Scene}
 use Rattle.fed_replay.specs.Replays.{Replays}
-use Rattle.fed_replay.specs.Engines.{SceneCloses}
+use Rattle.fed_replay.specs.Engines.{SceneAnswers, SceneCloses}
 use Rattle.fed_replay.specs.declared.script.ScriptFault.{ScriptFault}
 use Rattle.fed_replay.specs.declared.script.ScriptFault.TheVariants as scripts
 use Rattle.fed_setup.specs.Demo.{demo_list, setup_script}
@@ -62,7 +62,7 @@ pub record HasList (old : Scene) (name : List ℕ) (new : Scene) : Type 0 where
 pub record SetsUp (old : Scene) (owner name : List ℕ) (result : Result ℕ ScriptFault) (new : Scene) : Type 0 where
   pub listed : Scene
   pub has_list : HasList old name listed
-  pub replays : Replays SceneSteps SceneCloses listed owner (setup_script name) result new
+  pub replays : Replays SceneAnswers SceneCloses listed owner (setup_script name) result new
 
 -- every line of it is done
 abbrev pub HasDemo : Scene → List ℕ → List ℕ → Scene → Type 0
@@ -114,7 +114,7 @@ pub record HasSources (outside : Outside) (old : Scene) (list : Option (List ℕ
 -- the owner's replay of the set-up of the list of this name leads there, and every line of it is done
 pub record SetsUpList (old : Scene) (owner name : List ℕ) (new : Scene) : Type 0 where
   pub count : ℕ
-  pub replays : Replays SceneSteps SceneCloses old owner (setup_script name) (Ok count) new
+  pub replays : Replays SceneAnswers SceneCloses old owner (setup_script name) (Ok count) new
 
 -- the same if one is asked
 abbrev pub IsSetUp : Scene → List ℕ → Option (List ℕ) → Scene → Type 0
@@ -126,7 +126,7 @@ pub record IsNotSetUp (old : Scene) (owner name : List ℕ) : Type 0 where
   pub why : ScriptFault
   pub other : why ≢ scripts.NoMemory
   pub new : Scene
-  pub replays : Replays SceneSteps SceneCloses old owner (setup_script name) (Err why) new
+  pub replays : Replays SceneAnswers SceneCloses old owner (setup_script name) (Err why) new
 
 -- What a program of this owner begins with: from nothing at all the demo list as the source of this name, if one is asked, and these
 -- folders and databases as sources; and then the set-up of the list.
@@ -256,7 +256,7 @@ ReadsNot init _ = ⊥
 abbrev pub ReplaysInit : Scene → List ℕ → Option (List ℕ) → Came → Scene → Type 0
 ReplaysInit first owner None came after = (came ≡ Ok tt) × (after ≡ first)
 ReplaysInit first owner (Some script) came after =
-    (result : Result ℕ ScriptFault) × (came ≡ replay_told result) × Replays SceneSteps SceneCloses first owner script result after
+    (result : Result ℕ ScriptFault) × (came ≡ replay_told result) × Replays SceneAnswers SceneCloses first owner script result after
 
 -- What the beginning of a program comes to, and where it leads: its first world and boxes are made, and then its owner replays the script
 -- of its init file.

@@ -12,7 +12,6 @@ use blob_store::disk::DiskFault;
 use fdw_api::wishes::Wrapper2;
 use fed_replay::replay;
 use med_session::Engine;
-use std::alloc::Global;
 
 /// The bytes of the init file, if one is asked: those that reading its path to its end gives.
 ///
@@ -42,7 +41,6 @@ pub fn read_init<'a, V: Surroundings>(
 /// What was done is, for each world that agrees with the engine, the replay of the script from there. A script that is not UTF-8, a line
 /// that is refused, and want of memory are told.
 pub fn replay_init<'a, W: Wrapper2>(
-    alloc: Global,
     engine: &mut Engine<W>,
     owner: &str,
     script: &Option<Vec<u8>>,
@@ -54,7 +52,7 @@ pub fn replay_init<'a, W: Wrapper2>(
         (scene_of W.meaning engine.new after) × Agrees (shown W.meaning engine.new) after }
 {
     match script {
-        Some(script) => replay_told(replay(alloc, engine, owner, script)),
+        Some(script) => replay_told(replay(engine, owner, script)),
         None => Ok(()),
     }
 }

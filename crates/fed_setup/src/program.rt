@@ -58,7 +58,7 @@ pub fn add_demo<'a, W: Wrapper2>(
         Ok(()) => {}
         Err((_, fault)) => return Err(add_fault(name, fault)),
     }
-    setup_told(name, replay(alloc, engine, owner, script.as_bytes()))
+    setup_told(name, replay(engine, owner, script.as_bytes()))
 }
 
 // Adds a list of the demo tables as the source of this name.
@@ -214,7 +214,7 @@ fn set_up<'a, W: Wrapper2>(
         return Ok(());
     };
     let lines = setup_script(alloc, name)?;
-    setup_told(name, replay(alloc, engine, owner, lines.as_bytes()))
+    setup_told(name, replay(engine, owner, lines.as_bytes()))
 }
 
 // The engine that the program begins with, which has the sources that are asked, and in which the list is set up.
@@ -299,7 +299,7 @@ pub fn begin<'a, V: AllocGlobal + Surroundings>(
             });
         }
     };
-    match replay_init(rt.alloc(), &mut engine, asked.owner, &script) {
+    match replay_init(&mut engine, asked.owner, &script) {
         Ok(()) => Ok(Begun { engine, script }),
         Err(fault) => Err(NotBegun { fault, script }),
     }

@@ -93,7 +93,7 @@ impl<W: Wrapper2> Engine<W> {
         self.catalog.owner()
     }
 
-    /// Answers one request of a session: the reply is put behind what `out` has.
+    /// Does one request of a session as `answer` does, and puts the reply behind what `out` has.
     ///
     /// `NoRoom` where room for 128 bytes is refused before the request is begun. Then nothing was done, and the output had not the
     /// room for 128 bytes more: a caller that leaves that room never meets it. Where a later growth is refused, the reply is 53200,
@@ -154,8 +154,10 @@ impl<W: Wrapper2> Engine<W> {
         close_seats(&mut self.seats, &mut self.slots);
     }
 
-    // Does a request.
-    fn answer(&mut self, sid: Sid, request: Request<'_>) -> Outcome
+    /// Does one request of a session, and answers what it came to. No reply is written.
+    ///
+    /// Of a FETCH that gave rows the cursor is still there, and once it is closed as well the request is answered 53200 (`MayBeUntold`).
+    pub fn answer(&mut self, sid: Sid, request: Request<'_>) -> Outcome
         requires { IsSound (shown W.meaning self.old) }
         ensures sound { IsSound (shown W.meaning self.new) }
         ensures leads { Leads (shown W.meaning self.old) sid.number (asked request.entry) (reply_of result) (shown W.meaning self.new) }

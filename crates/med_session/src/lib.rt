@@ -16,3 +16,4 @@ pub use adding::{AddFault, Sources};
 pub use engine::{Engine, NewFault};
 pub use med_catalog::SourceKind;
 pub use session::{NoRoom, Request, Sid};
+pub use session_replies::Outcome;

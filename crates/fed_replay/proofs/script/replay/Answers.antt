@@ -1,10 +1,9 @@
-use Rattle.session_wire.specs.Engines.{EngineSteps}
-use Rattle.fed_replay.specs.Engines.{EngineCloses}
+use Rattle.fed_replay.specs.Engines.{EngineAnswers, EngineCloses}
 use Rattle.fed_replay.proofs.Follows.{in_worlds, replay_rises, no_text, ran}
 use Rattle.fed_replay.proofs.script.replay.Goals as goal
 
 pub returns-in_default-clause-replays : goal.returns-in_default-clause-replays
-returns-in_default-clause-replays g c = no_text (EngineSteps g.W.Wrapper.meaning) (EngineCloses g.W.Wrapper.meaning) c.args.engine.now c.args.owner.now c.args.script.now c.in_default.ensures.cases.0
+returns-in_default-clause-replays g c = no_text (EngineAnswers g.W.Wrapper.meaning) (EngineCloses g.W.Wrapper.meaning) c.args.engine.now c.args.owner.now c.args.script.now c.in_default.ensures.cases.0
 
 pub returns-in_default-clause-worlds : goal.returns-in_default-clause-worlds
 returns-in_default-clause-worlds g c =
@@ -16,7 +15,7 @@ returns-in_default-clause-rises g c =
 
 pub returns-clause-replays : goal.returns-clause-replays
 returns-clause-replays g c =
-    ran (EngineSteps g.W.Wrapper.meaning) (EngineCloses g.W.Wrapper.meaning) c.args.engine.now c.args.owner.now c.args.script.now c.in-Ok.text.now c.run-ran.result c.run-ran.new.engine c.close_session.new.self
+    ran (EngineAnswers g.W.Wrapper.meaning) (EngineCloses g.W.Wrapper.meaning) c.args.engine.now c.args.owner.now c.args.script.now c.in-Ok.text.now c.run-ran.result c.run-ran.new.engine c.close_session.new.self
     c.in-Ok.ensures.cases.1 c.in-Ok.ensures.cases.0 c.run-ran.ensures.runs c.close_session.ensures.closes
 
 pub returns-clause-worlds : goal.returns-clause-worlds

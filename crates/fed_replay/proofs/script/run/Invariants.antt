@@ -1,13 +1,13 @@
 use Rattle.med_session.specs.Engine.{IsSound}
 use Rattle.med_session.specs.Shows.{shown}
-use Rattle.session_wire.specs.Engines.{EngineSteps}
+use Rattle.fed_replay.specs.Engines.{EngineAnswers}
 use Rattle.fed_replay.proofs.Reached.{Reached, size}
 use Rattle.fed_replay.proofs.script.run.Given as goal
 
 abbrev pub invariant-loop-rest : goal.invariant-loop-rest
 invariant-loop-rest g l = record {
   sound : IsSound (shown g.W.Wrapper.meaning l.engine);
-  reached : Reached (EngineSteps g.W.Wrapper.meaning) l.fn.engine l.owner l.script l.engine l.number l.count l.rest;
+  reached : Reached (EngineAnswers g.W.Wrapper.meaning) l.fn.engine l.owner l.script l.engine l.number l.count l.rest;
 }
 
 abbrev pub decreases-loop-rest : goal.decreases-loop-rest
