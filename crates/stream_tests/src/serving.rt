@@ -315,7 +315,7 @@ const SCRIPTS: [(&[u8], Result<u64, ScriptFault>); 5] = [
 // What a script comes to over the demo list, and the reply to a user who opens session 64 after it.
 fn came(alloc: Global, script: &[u8]) -> Result<(Result<u64, ScriptFault>, Vec<u8>), Fail> {
     let mut engine = demo_engine(alloc)?;
-    let came = replay(alloc, &mut engine, "admin", script);
+    let came = replay(&mut engine, "admin", script);
     let mut out = Vec::new(alloc);
     engine.request(Sid { number: 64 }, Request::Open("ann"), &mut out)?;
     Ok((came, out))
