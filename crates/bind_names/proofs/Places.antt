@@ -1,11 +1,10 @@
 -- Places found one after the other, and the columns at places.
 use Rattle.std.proofs.Common.{◌≡◌, ℕ, zero, suc, ◌-◌, ◌<◌, ◌≤◌, Bool, true, false, if◌then◌else◌, List, [], ◌∷◌, ◌++◌, length, Option, slice_get, get_or, drop, map, ◌+◌, option_map, refl, sym, ap, ◌∙◌, arith}
 use Rattle.std.proofs.lemmas.List.{length-map, length-append}
-use Rattle.med_value.specs.Column.{Column}
+use Rattle.med_value.specs.Column.{Column, column_of}
 use Rattle.med_value.specs.declared.value.ColType.{ColType}
 use Rattle.med_value.specs.declared.cause.Cause.TheVariants.{UndefinedTable, UndefinedColumn, AmbiguousColumn}
 use Rattle.med_syntax.specs.Tree.{Name}
-use Rattle.med_value.specs.Column.{column_of}
 use Rattle.bind_names.proofs.Parts.{drop_read}
 use Rattle.bind_names.specs.declared.scope.Visible.{Visible}
 use Rattle.bind_names.specs.Scope.{TableShape, Scope, visible, scope_of, columns_of, candidates_from, candidates, is_meant, places_from, has_entry, kind_there, kind_at}

@@ -256,10 +256,10 @@ core_meant tables sorting number c =
 
 -- ---- the whole (SQL:2016, <query expression>)
 
-abbrev pub rows_left : Option LimitTree → Option ℕ
-rows_left None = None
-rows_left (Some no_limit) = None
-rows_left (Some (rows n)) = Some n
+abbrev pub limit_of : Option LimitTree → Option ℕ
+limit_of None = None
+limit_of (Some no_limit) = None
+limit_of (Some (rows n)) = Some n
 
 -- ORDER BY of a query of one core sees what that core has in view, and its outputs; of one with UNION ALL the outputs, under the names that
 -- the first core gives them.
@@ -290,7 +290,7 @@ meant_in tables q = record {
     cores = cores_meant tables (sorting_of tables q) 0 (cores_of q);
     directions = map key_direction q.keys;
     offset = unwrap_or q.offset 0;
-    limit = rows_left q.limit;
+    limit = limit_of q.limit;
   };
 }
 

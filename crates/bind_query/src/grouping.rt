@@ -5,19 +5,17 @@ ghost use Rattle.bind_names.specs.Meaning.{groups_rows};
 ghost use Rattle.bind_names.specs.Telling.{Means, Adds};
 ghost use Rattle.bind_query.specs.Resolving.{GroupsBy, shown_trees};
 ghost use Rattle.med_syntax.specs.QueryView.{core_tree};
-ghost use Rattle.std.specs.List.{list_any};
 ghost use Rattle.std.specs.Option.{is_some};
-ghost use Rattle.std.specs.Prelude.{◌≡◌, ◌++◌, [], not, ◌||◌, map, flat_map};
+ghost use Rattle.std.specs.Prelude.{◌≡◌, ◌++◌, [], ◌||◌, map, flat_map};
 ghost use Rattle.tri_expr.specs.Tree.{tree};
 ghost use Rattle.tri_expr.specs.TreeParts.{arguments_in};
 
 use bind_names::any_has_aggregate;
-use expr_parts::arguments;
 use med_query::Grouping;
 use med_syntax::Core;
 use med_value::Cause;
 use std::alloc::Global;
-use tri_expr::Expr;
+use tri_expr::{Expr, arguments};
 
 // Appends the arguments of the aggregates of the expressions.
 fn push_arguments(alloc: Global, es: &[Expr], out: &mut Vec<Expr>) -> Result<(), Cause>

@@ -17,12 +17,11 @@ ghost use Rattle.std.specs.Prelude.{ℕ, ◌+◌, [], map, length, option_map, S
 
 use crate::resolve::resolve;
 use bind_names::{TableView, Visible, joined_entry, visible_of};
-use expr_parts::conjuncts;
 use med_query::{Join, JoinChain};
 use med_syntax::{Chain, Entry, Expr as Written, Join as WrittenJoin};
 use med_value::Cause;
 use std::alloc::Global;
-use tri_expr::Expr;
+use tri_expr::{Expr, conjuncts};
 
 // The conjuncts of a condition.
 fn conjuncts_of(

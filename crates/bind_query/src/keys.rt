@@ -27,13 +27,12 @@ ghost use Rattle.tri_expr.specs.TreeParts.{same_tree};
 use crate::outputs::Shown;
 use crate::resolve::resolve;
 use bind_names::{FoundPlaces, Visible, find_column, one_more};
-use expr_parts::is_same;
 use med_query::SortDirection;
 use med_syntax::{Expr as Written, GroupColumn, OrderKey};
 use med_value::{Cause, Value};
 use std::alloc::Global;
-use tri_expr::Expr;
 use tri_expr::law::same_trees_are_equal;
+use tri_expr::{Expr, is_same};
 
 // Whether an output has this name.
 fn is_output(outputs: &[Shown], name: &str) -> bool

@@ -30,13 +30,6 @@ two_unknown (Some Sum) t u ts = refl
 two_unknown (Some Min) t u ts = refl
 two_unknown (Some Max) t u ts = refl
 
-pub none_unknown : (f : Option SetFunction) → as_call f [] ≡ UndefinedFunction ∷ []
-none_unknown None = refl
-none_unknown (Some Count) = refl
-none_unknown (Some Sum) = refl
-none_unknown (Some Min) = refl
-none_unknown (Some Max) = refl
-
 several_unknown : (s : Scope) (f : Option SetFunction) (es : List Expr) → 2 ≤ length es → as_call f (types_of s (expr_trees es)) ≡ UndefinedFunction ∷ []
 several_unknown s f [] h = absurd (omega arith)
 several_unknown s f (e ∷ []) h = absurd (omega arith)

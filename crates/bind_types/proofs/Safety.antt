@@ -10,10 +10,6 @@ use Rattle.med_query.specs.declared.select.SelectCore.{SelectCore}
 use Rattle.bind_names.specs.Telling.{Passes}
 use Rattle.bind_types.specs.Typing.{unless, no_aggregate, no_risk, join_causes, chain_causes, core_causes}
 
-pub on_ok : {X : Type 0} (r : Result X Cause) (P : Type 0) → P → OnOk r P
-on_ok (Ok x) P h = h
-on_ok (Err c) P h = tt
-
 pub left_empty : (xs ys : List Cause) → xs ++ ys ≡ [] → xs ≡ []
 left_empty [] ys h = refl
 left_empty (x ∷ xs) ys h = absurd cc

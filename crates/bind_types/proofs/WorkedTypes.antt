@@ -1,6 +1,5 @@
 -- The types of queries with UNION ALL. Each line is proved by computing both sides.
-use Rattle.std.proofs.Common.{◌≡◌, false, List, [], ◌∷◌, codes, None, refl}
-use Rattle.med_value.specs.declared.value.ColType.{ColType}
+use Rattle.std.proofs.Common.{◌≡◌, false, [], ◌∷◌, codes, None, refl}
 use Rattle.med_value.specs.declared.value.ColType.TheVariants.{Int, Text}
 use Rattle.med_value.specs.declared.cause.Cause.TheVariants.{DatatypeMismatch, ValuesSyntax}
 use Rattle.med_syntax.specs.ExprTree.{ExprTree, num, null}

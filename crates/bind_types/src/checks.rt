@@ -1,7 +1,7 @@
 //! The types of what a query writes.
 #![tactic(auto, using(bind_names::proofs::Causes::tells_left, bind_names::proofs::Causes::tells_right, bind_names::proofs::Causes::tells_memory, bind_names::proofs::Causes::tells_one, bind_names::proofs::Causes::none_of_two))]
 
-ghost use Rattle.std.specs.Prelude.{◌≡◌, ◌++◌, ◌∷◌, [], map, flat_map, option_map};
+ghost use Rattle.std.specs.Prelude.{◌≡◌, ◌++◌, ◌∷◌, [], map, flat_map};
 ghost use Rattle.med_syntax.specs.ExprView.{expr_tree};
 ghost use Rattle.med_syntax.specs.QueryView.{item_tree, join_tree, chain_tree, key_tree, core_tree, select_tree};
 ghost use Rattle.bind_names.specs.Scope.{scope_of, table_shape, visible};
@@ -10,6 +10,7 @@ ghost use Rattle.bind_names.specs.Telling.{Passes};
 ghost use Rattle.bind_types.specs.Kinds.{written_key_causes, asked_type_causes};
 
 use crate::typing::{operand, type_of};
+use crate::values::type_where;
 use bind_names::{TableView, Visible, from_in_view, joined_entry, visible_of};
 use med_syntax::{Chain, Core, Expr as Written, Item, Join, OrderKey, Select};
 use med_value::{Cause, ColType};
@@ -33,7 +34,7 @@ fn check_join(scope: &[Visible<'_>], join: &Join) -> Result<(), Cause>
     }
 }
 
-// Refuses an ON by its types. It sees what stands on its left in its own chain, and its own entry.
+// Refuses an ON by its types. It sees what stands on its left in its own chain, and its own entry. Of one entry alone no list is made.
 fn check_joins<'a>(
     alloc: Global,
     first: Visible<'a>,
@@ -42,6 +43,9 @@ fn check_joins<'a>(
 ) -> Result<(), Cause>
     ensures { Passes (spec.joins_type_causes (map table_shape tables.now) (visible first.entry ∷ []) (map join_tree joins.now)) result }
 {
+    if joins.is_empty() {
+        return Ok(());
+    }
     let mut seen = Vec::new(alloc);
     seen.push(first)?;
     for join in joins {
@@ -96,16 +100,6 @@ fn check_items(scope: &[Visible<'_>], items: &[Item]) -> Result<(), Cause>
     Ok(())
 }
 
-// Refuses WHERE or HAVING by its types.
-fn check_condition(scope: &[Visible<'_>], condition: &Option<Written>) -> Result<(), Cause>
-    ensures { Passes (spec.condition_type_causes (scope_of scope.now) (option_map expr_tree condition.now)) result }
-{
-    match condition {
-        None => Ok(()),
-        Some(e) => operand(scope, e, ColType::Bool, Cause::DatatypeMismatch),
-    }
-}
-
 // Refuses an order key by its types: the position and the name of an output have none.
 fn check_key(scope: &[Visible<'_>], key: &OrderKey) -> Result<(), Cause>
     ensures { Passes (written_key_causes (scope_of scope.now) (key_tree key.now)) result }
@@ -129,8 +123,8 @@ fn check_asked(scope: &[Visible<'_>], core: &Core) -> Result<(), Cause>
     ensures { Passes (asked_type_causes (scope_of scope.now) (core_tree core.now)) result }
 {
     check_items(scope, core.items.as_slice())?;
-    check_condition(scope, &core.condition)?;
-    check_condition(scope, &core.having)
+    type_where(scope, &core.condition)?;
+    type_where(scope, &core.having)
 }
 
 // Refuses a core by the types of what it writes.
@@ -152,12 +146,16 @@ fn check_cores(alloc: Global, cores: &[Core], tables: &[TableView<'_>]) -> Resul
     Ok(())
 }
 
-// Refuses ORDER BY by the types of its keys, which see what the first core has in view.
+// Refuses ORDER BY by the types of its keys, which see what the first core has in view; where there are none, no list of that is made.
 fn check_order(alloc: Global, select: &Select, tables: &[TableView<'_>]) -> Result<(), Cause>
     ensures { Passes (spec.order_type_causes (map table_shape tables.now) (select_tree select.now)) result }
 {
+    let keys = select.keys.as_slice();
+    if keys.is_empty() {
+        return Ok(());
+    }
     let seen = from_in_view(alloc, tables, select.core.from.as_slice())?;
-    check_keys(seen.as_slice(), select.keys.as_slice())
+    check_keys(seen.as_slice(), keys)
 }
 
 /// Refuses a query by the types of what it writes: 42804 where a condition is not boolean, 42883 where an operator or a function has no

@@ -11,7 +11,7 @@ ghost use Rattle.std.specs.Prelude.{◌≡◌, ◌++◌, map, flat_map, option_m
 ghost use Rattle.tri_expr.specs.Tree.{tree, trees};
 ghost use Rattle.tri_expr.specs.TreeParts.{is_risky_tree};
 
-use bind_names::has_aggregate;
+use bind_names::{any_has_aggregate, has_aggregate};
 use med_query::{Grouping, Join, JoinChain, Select, SelectCore};
 use med_value::Cause;
 use tri_expr::{Expr, is_risky};
@@ -69,18 +69,6 @@ fn is_ungrouped(keys: &[usize], e: &Expr) -> bool
     }
 }
 
-// Whether an aggregate stands in one of the conjuncts.
-fn any_aggregate(conjuncts: &[Expr]) -> bool
-    ensures { result ≡ list_any spec.has_aggregate (map tree conjuncts.now) }
-{
-    for conjunct in conjuncts {
-        if has_aggregate(conjunct) {
-            return true;
-        }
-    }
-    false
-}
-
 // Whether one of the expressions has no one meaning over groups with these keys.
 fn any_ungrouped(keys: &[usize], shown: &[Expr]) -> bool
     ensures { result ≡ list_any (spec.is_ungrouped keys.now) (map tree shown.now) }
@@ -105,11 +93,11 @@ fn any_fault(conjuncts: &[Expr]) -> bool
     false
 }
 
-// Refuses an aggregate in WHERE or ON.
-fn check_no_aggregate(conjuncts: &[Expr]) -> Result<(), Cause>
+/// 42803 for an aggregate in one of the expressions, as in WHERE or ON. It takes no memory.
+pub fn check_no_aggregate(conjuncts: &[Expr]) -> Result<(), Cause>
     ensures { Passes (causes.no_aggregate (map tree conjuncts.now)) result }
 {
-    if any_aggregate(conjuncts) {
+    if any_has_aggregate(conjuncts) {
         Err(Cause::Grouping)
     } else {
         Ok(())

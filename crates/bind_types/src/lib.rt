@@ -14,7 +14,7 @@ mod typing;
 mod values;
 
 pub use checks::check_written;
-pub use forms::check_form;
+pub use forms::{check_form, check_no_aggregate};
 pub use kinds::{kind_of, kinds_in_view, kinds_of, kinds_of_all};
 pub use outputs::check_outputs;
 pub use typing::takes;

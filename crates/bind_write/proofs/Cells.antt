@@ -10,9 +10,9 @@ use Rattle.tri_expr.specs.Tree.{Tree}
 use Rattle.bind_names.specs.Scope.{Scope}
 use Rattle.bind_names.specs.Meaning.{resolved}
 use Rattle.bind_types.specs.TreeTypes.{tree_type, column_kinds}
-use Rattle.write_parts.specs.Meaning.{set_for, cells_meant, name_place}
-use Rattle.write_parts.specs.Naming.{set_names, set_values}
-use Rattle.write_parts.specs.Typing.{cells_causes, set_types}
+use Rattle.bind_write.specs.Meaning.{set_for, cells_meant, name_place}
+use Rattle.bind_write.specs.Naming.{set_names, set_values}
+use Rattle.bind_write.specs.Typing.{cells_causes, set_types}
 
 place_by : (b : Bool) (at : ℕ) (p r : Option ℕ) → r ≡ option_map (λ (k : ℕ). suc k) p → (if b then Some (suc at) else r) ≡ option_map (λ (k : ℕ). suc k) (if b then Some at else p)
 place_by true at p r e = refl

@@ -4,8 +4,8 @@ use Rattle.med_value.specs.Column.{Column}
 use Rattle.med_syntax.specs.Tree.{Name}
 use Rattle.tri_expr.specs.Tree.{Tree}
 use Rattle.med_write.specs.Form.{insert_form, values_form}
-use Rattle.write_parts.specs.Meaning.{places_meant}
-use Rattle.write_parts.specs.Typing.{rows_fit_causes}
+use Rattle.bind_write.specs.Meaning.{places_meant}
+use Rattle.bind_write.specs.Typing.{rows_fit_causes}
 
 pub fits_same : (columns seen : List Column) (names : Option (List Name)) (rows ts : List (List Tree)) → seen ≡ columns → ts ≡ rows → rows_fit_causes seen names ts ≡ rows_fit_causes columns names rows
 fits_same columns seen names rows ts c r = rw (c, r) refl

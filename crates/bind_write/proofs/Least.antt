@@ -6,9 +6,9 @@ use Rattle.med_syntax.specs.Tree.{Name}
 use Rattle.med_syntax.specs.WriteTree.{WriteTree}
 use Rattle.med_catalog.specs.DdlCauses.{phase}
 use Rattle.med_catalog.specs.Objects.{Objects}
-use Rattle.write_parts.specs.Naming.{WriteNames}
-use Rattle.write_parts.specs.Typing.{WriteTypes}
-use Rattle.write_parts.proofs.Phases.{names, types}
+use Rattle.bind_write.specs.Naming.{WriteNames}
+use Rattle.bind_write.specs.Typing.{WriteTypes}
+use Rattle.bind_write.proofs.Phases.{names, types}
 use Rattle.bind_write.specs.Binding.{IsLeast, NotBound}
 
 least_name : (o : Objects) (user : Name) (t : WriteTree) (c d : Cause) → WriteNames o user t c → WriteNames o user t d ⊎ WriteTypes o t d → phase c ≤ phase d

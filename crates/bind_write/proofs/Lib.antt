@@ -1,3 +1,8 @@
+pub mod Lists
+pub mod Targets
+pub mod PartCells
+pub mod Expressions
+pub mod Phases
 pub mod Writes
 pub mod Cells
 pub mod Updates

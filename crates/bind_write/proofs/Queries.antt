@@ -1,7 +1,6 @@
 -- The query of an INSERT over the tables of a catalogue.
-use Rattle.std.proofs.Common.{◌≡◌, inl, inr, ℕ, true, List, [], ◌∷◌, ◌++◌, map, Option, Some, None, unwrap_or, Contains, flat_map, refl, sym, ap, ◌∙◌, subst, arith}
+use Rattle.std.proofs.Common.{◌≡◌, ◌⊎◌, inl, inr, ℕ, List, [], ◌∷◌, ◌++◌, map, Option, Contains, flat_map, Result, Ok, Err, refl, sym, ap, ◌∙◌, subst}
 use Rattle.std.proofs.lemmas.List.Elements.{Contains-append_left, Contains-append_right}
-use Rattle.med_value.specs.Causes.{phase_of}
 use Rattle.med_value.specs.Column.{Column, column_of}
 use Rattle.med_value.specs.declared.value.ColType.{ColType}
 use Rattle.med_value.specs.declared.cause.Cause.{Cause}
@@ -14,37 +13,29 @@ use Rattle.med_syntax.specs.declared.statement.Statement.TheVariants as s
 use Rattle.med_syntax.specs.WriteTree.{rows_of}
 use Rattle.med_syntax.specs.WriteView.{given_tree}
 use Rattle.med_syntax.specs.declared.write.Given.TheVariants as g
-use Rattle.med_query.specs.Select.{are_safe_cores}
 use Rattle.med_write.specs.Form.{insert_form, answer_form}
 use Rattle.bind_names.specs.Naming.{entered_causes, asked_causes, select_name_causes, once_known}
 use Rattle.bind_names.proofs.Causes.{none_of_two}
-use Rattle.bind_names.specs.Scope.{query_scope}
 use Rattle.bind_names.specs.Telling.{TellsCause}
 use Rattle.bind_types.specs.Typing.{answer_types, select_type_causes}
-use Rattle.med_binder.specs.Binding.{IsMeant, bound_kinds}
-use Rattle.med_binder.specs.Counted.{bound_widths}
-use Rattle.med_binder.specs.Within.{widths}
+use Rattle.med_binder.specs.Binding.{bound_kinds}
 use Rattle.med_binder.specs.Turns.{TellsInTurn}
 use Rattle.med_binder.specs.declared.bound.BoundQuery.{BoundQuery}
-use Rattle.med_binder.specs.Place.{entry_place}
-use Rattle.med_catalog.specs.DdlCauses.{phase}
 use Rattle.med_catalog.specs.Objects.{Objects}
-use Rattle.med_binder.proofs.Phases as of_query
 use Rattle.med_binder.specs.Barred.{query_right_causes, target_right_causes}
-use Rattle.med_binder.specs.Looked.{query_in}
-use Rattle.med_binder.specs.Places.{Attached, ArePlaces}
-use Rattle.med_binder.specs.Queries as queries
-use Rattle.med_binder.specs.Queries.{QueryNames, QueryTypes, meant_by}
+use Rattle.med_binder.specs.Looked.{query_in, TypesOver}
+use Rattle.med_binder.specs.Places.{Attached}
+use Rattle.med_binder.specs.Queries.{QueryNames}
 use Rattle.med_binder.specs.Tables.{shapes}
-use Rattle.write_parts.proofs.Lists.{empty_by, in_turn_by, types_in_turn}
-use Rattle.write_parts.specs.Asking.{IsTarget}
-use Rattle.write_parts.specs.Meaning.{columns_in, places_meant}
-use Rattle.write_parts.specs.Naming.{target_causes, named_causes, names_of}
-use Rattle.write_parts.specs.Typing.{row_fit_causes, types_of}
-use Rattle.write_parts.specs.declared.target.Target.{Target}
+use Rattle.bind_write.proofs.Lists.{empty_by, in_turn_by, types_in_turn}
+use Rattle.bind_write.specs.Asking.{IsTarget}
+use Rattle.bind_write.specs.Meaning.{columns_in, places_meant}
+use Rattle.bind_write.specs.Naming.{target_causes, named_causes, names_of}
+use Rattle.bind_write.specs.Typing.{row_fit_causes, types_of}
+use Rattle.bind_write.specs.declared.target.Target.{Target}
 use Rattle.bind_write.proofs.Updates.{list_told}
 use Rattle.bind_write.specs.Binding.{query_write}
-use Rattle.bind_write.specs.Steps.{query_names, IsAskedQuery}
+use Rattle.bind_write.specs.Steps.{query_names, IsAskedQuery, AsksQuery}
 
 once_empty : (xs ys : List Cause) → once_known xs ys ≡ [] → (xs ≡ []) × (ys ≡ [])
 once_empty [] ys h = (refl, h)
@@ -64,62 +55,41 @@ parts_clear o user q clear =
 names_clear : (f l a r : List Cause) → f ≡ [] → l ≡ [] → a ≡ [] → r ≡ [] → once_known f (l ++ a) ++ r ≡ []
 names_clear f l a r e k h i = rw (e, k, h, i) refl
 
-pub query_fine : (o : Objects) (bound : List Attached) (user : Name) (columns : List Column) (names : Option (List Name)) (q : SelectTree) (b : BoundQuery)
-    → queries.IsBindable o user q → IsMeant (meant_by o q) b → ArePlaces bound (meant_by o q).entries (map entry_place b.entries.items)
-    → bound_widths b ≡ widths (query_scope (shapes o) q) → bound_kinds b ≡ answer_types (shapes o) q → are_safe_cores b.select.cores.items ≡ true → named_causes columns names ≡ [] → IsAskedQuery o bound user columns names q b
-query_fine o bound user columns names q b is meant there wide typed safe listed =
-    let parts = parts_clear o user q is.names in
-    record {
-      meant = meant;
-      there = there;
-      widths = wide;
-      kinds = typed;
-      safe = safe;
-      names = names_clear (entered_causes (shapes o) q) (named_causes columns names) (asked_causes (shapes o) q) (query_right_causes o user q) parts.0 listed parts.1 parts.2;
-      types = empty_by (select_type_causes (shapes o) q) is.types;
-    }
-
 pub query_list : (o : Objects) (user : Name) (columns : List Column) (names : Option (List Name)) (q : SelectTree) (c : Cause)
     → ((d : Cause) → QueryNames o user q d → ⊥) → TellsCause (named_causes columns names) c → TellsInTurn (query_names o user columns names q) (select_type_causes (shapes o) q) c
 query_list o user columns names q c clear t =
     list_told (entered_causes (shapes o) q) (named_causes columns names) (asked_causes (shapes o) q) (query_right_causes o user q) (select_type_causes (shapes o) q) c (parts_clear o user q clear).0 t
 
--- ---- by the phase of what the query's binder tells
-
-memory_late : (c : Cause) → c ≡ OutOfMemory → phase_of c ≡ Some 4 → ⊥
-memory_late c e h = let p : phase_of OutOfMemory ≡ Some 4 = ap phase_of (sym e) ∙ h in absurd cc
-
-names_late : (o : Objects) (user : Name) (q : SelectTree) (c : Cause) → QueryNames o user q c → phase_of c ≡ Some 4 → ⊥
-names_late o user q c i h = let e : phase c ≡ 4 = ap (λ r. unwrap_or r 7) h in omega (arith, of_query.names o user q c i, e)
-
-pub late_clear : (o : Objects) (user : Name) (q : SelectTree) (c : Cause) → queries.NotBound o user q c → phase_of c ≡ Some 4
-    → QueryTypes o q c × ((d : Cause) → QueryNames o user q d → ⊥)
-late_clear o user q c (inl e) h = absurd (memory_late c e h)
-late_clear o user q c (inr (inl i)) h = absurd (names_late o user q c i h)
-late_clear o user q c (inr (inr i)) h = i
-
-pub query_late : (o : Objects) (user : Name) (columns : List Column) (names : Option (List Name)) (q : SelectTree) (c : Cause)
-    → queries.NotBound o user q c → phase_of c ≡ Some 4 → named_causes columns names ≡ [] → TellsInTurn (query_names o user columns names q) (select_type_causes (shapes o) q) c
-query_late o user columns names q c n h listed =
-    let late = late_clear o user q c n h in
-    let parts = parts_clear o user q late.1 in
-    record { told = inr (inr (names_clear (entered_causes (shapes o) q) (named_causes columns names) (asked_causes (shapes o) q) (query_right_causes o user q) parts.0 listed parts.1 parts.2, late.0)) }
-
-four_of : (p : Option ℕ) → unwrap_or p 7 ≡ 4 → p ≡ Some 4
-four_of None e = absurd cc
-four_of (Some n) e = ap Some e
-
+-- a cause of its names or rights
 pub query_early : (o : Objects) (user : Name) (columns : List Column) (names : Option (List Name)) (q : SelectTree) (c : Cause)
-    → queries.NotBound o user q c → (phase_of c ≡ Some 4 → ⊥) → TellsInTurn (query_names o user columns names q) (select_type_causes (shapes o) q) c
-query_early o user columns names q c (inl e) other = record { told = inl e }
-query_early o user columns names q c (inr (inl (inl i))) other =
+    → (c ≡ OutOfMemory) ⊎ QueryNames o user q c → TellsInTurn (query_names o user columns names q) (select_type_causes (shapes o) q) c
+query_early o user columns names q c (inl e) = record { told = inl e }
+query_early o user columns names q c (inr (inl i)) =
     record {
       told = inr (inl (Contains-append_left (once_known (entered_causes (shapes o) q) (named_causes columns names ++ asked_causes (shapes o) q)) (query_right_causes o user q) c
           (once_wider (entered_causes (shapes o) q) (named_causes columns names) (asked_causes (shapes o) q) c i)));
     }
-query_early o user columns names q c (inr (inl (inr i))) other =
+query_early o user columns names q c (inr (inr i)) =
     record { told = inr (inl (Contains-append_right (once_known (entered_causes (shapes o) q) (named_causes columns names ++ asked_causes (shapes o) q)) (query_right_causes o user q) c i)) }
-query_early o user columns names q c (inr (inr i)) other = absurd (other (four_of (phase_of c) (of_query.types o q c i.0)))
+
+-- its types, where no cause of names or rights stands
+pub query_judged : (o : Objects) (bound : List Attached) (user : Name) (columns : List Column) (names : Option (List Name)) (q : SelectTree) (r : Result BoundQuery Cause)
+    → ((d : Cause) → QueryNames o user q d → ⊥) → named_causes columns names ≡ [] → TypesOver o bound user q r → AsksQuery o bound user columns names q r
+query_judged o bound user columns names q (Ok b) clear listed is =
+    let parts = parts_clear o user q clear in
+    record {
+      meant = is.meant;
+      there = is.there;
+      widths = is.widths;
+      kinds = is.kinds;
+      safe = is.safe;
+      names = names_clear (entered_causes (shapes o) q) (named_causes columns names) (asked_causes (shapes o) q) (query_right_causes o user q) parts.0 listed parts.1 parts.2;
+      types = is.types;
+    }
+query_judged o bound user columns names q (Err c) clear listed t =
+    let parts = parts_clear o user q clear in
+    types_in_turn (query_names o user columns names q) (select_type_causes (shapes o) q) (select_type_causes (shapes o) q) c
+    (names_clear (entered_causes (shapes o) q) (named_causes columns names) (asked_causes (shapes o) q) (query_right_causes o user q) parts.0 listed parts.1 parts.2) (λ d i. i) t
 
 -- ---- the whole INSERT
 

@@ -5,7 +5,7 @@ use Rattle.std.proofs.lemmas.Option.{slice_get-map, slice_get-get_or}
 use Rattle.std.specs.List.{list_all}
 use Rattle.med_value.specs.declared.cause.Cause.TheVariants.{ValuesSyntax}
 use Rattle.bind_types.specs.Typing.{unless}
-use Rattle.write_parts.specs.Typing.{length_causes}
+use Rattle.bind_write.specs.Typing.{length_causes}
 
 pub lengths_by : {X : Type 0} (rows : List (List X)) (first : List X) (others : List (List X)) (n : ℕ) → rows ≡ first ∷ others → n ≡ length first
     → length_causes rows ≡ unless (list_all (λ s. nat_eq (length s) n) others) ValuesSyntax

@@ -16,13 +16,13 @@ use Rattle.med_catalog.specs.Objects.{Objects}
 use Rattle.med_binder.specs.Barred.{target_right_causes}
 use Rattle.med_binder.specs.Places.{Attached}
 use Rattle.med_binder.specs.Tables.{shapes}
-use Rattle.write_parts.specs.declared.target.Target.{Target}
-use Rattle.write_parts.specs.declared.values.BoundValues.{BoundValues}
-use Rattle.write_parts.specs.Meaning.{columns_in, scope_in, cells_meant}
-use Rattle.write_parts.specs.Naming.{target_causes, list_causes, names_of, set_names, set_values}
-use Rattle.write_parts.specs.Typing.{asked_types, cells_causes, set_types, types_of}
-use Rattle.write_parts.specs.Asking.{IsTarget, AreBound, value_names}
-use Rattle.write_parts.proofs.Lists.{in_turn_by, names_in_turn, types_in_turn}
+use Rattle.bind_write.specs.declared.target.Target.{Target}
+use Rattle.bind_write.specs.declared.write_values.BoundValues.{BoundValues}
+use Rattle.bind_write.specs.Meaning.{columns_in, scope_in, cells_meant}
+use Rattle.bind_write.specs.Naming.{target_causes, list_causes, names_of, set_names, set_values}
+use Rattle.bind_write.specs.Typing.{asked_types, cells_causes, set_types, types_of}
+use Rattle.bind_write.specs.Asking.{IsTarget, AreBound, value_names}
+use Rattle.bind_write.proofs.Lists.{in_turn_by, names_in_turn, types_in_turn}
 use Rattle.bind_write.proofs.Writes.{names_left}
 
 -- a cause of the list of columns

@@ -18,16 +18,16 @@ use Rattle.med_write.specs.Form.{form_of}
 use Rattle.med_binder.specs.Barred.{target_right_causes}
 use Rattle.med_binder.specs.Places.{Attached}
 use Rattle.med_binder.specs.Tables.{shapes}
-use Rattle.write_parts.specs.declared.target.Target.{Target}
-use Rattle.write_parts.specs.declared.values.BoundValues.{BoundValues}
+use Rattle.bind_write.specs.declared.target.Target.{Target}
+use Rattle.bind_write.specs.declared.write_values.BoundValues.{BoundValues}
 use Rattle.bind_write.specs.declared.bound.TableWrite.{TableWrite}
-use Rattle.write_parts.specs.Meaning.{target_of, columns_in, written_column, write_meant, scope_in}
-use Rattle.write_parts.specs.Naming.{target_causes, names_of, WriteNames}
-use Rattle.write_parts.specs.Typing.{asked_types, types_of, WriteTypes}
+use Rattle.bind_write.specs.Meaning.{target_of, columns_in, written_column, write_meant, scope_in}
+use Rattle.bind_write.specs.Naming.{target_causes, names_of, WriteNames}
+use Rattle.bind_write.specs.Typing.{asked_types, types_of, WriteTypes}
 use Rattle.bind_write.specs.Binding.{IsQueryOf, IsBoundWrite, IsBindable, IsMeantWrite, NotBound}
-use Rattle.write_parts.specs.Asking.{IsTarget, AreBound, value_names, view_of}
+use Rattle.bind_write.specs.Asking.{IsTarget, AreBound, value_names, view_of}
 use Rattle.bind_write.specs.Steps.{BindsWrite}
-use Rattle.write_parts.proofs.Lists.{none_in, of_two, in_turn_by}
+use Rattle.bind_write.proofs.Lists.{none_in, of_two, in_turn_by}
 
 once_left : (xs ys : List Cause) (c : Cause) → Contains xs c → Contains (once_known xs ys) c
 once_left [] ys c h = absurd (let within = h.1 in omega arith)

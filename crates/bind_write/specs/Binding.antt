@@ -20,9 +20,9 @@ use Rattle.med_binder.specs.Places.{Attached, IsPlaceOf, ArePlaces}
 use Rattle.med_binder.specs.Queries.{meant_by}
 use Rattle.med_write.specs.Form.{form_of}
 use Rattle.bind_write.specs.declared.bound.TableWrite.{TableWrite}
-use Rattle.write_parts.specs.Meaning.{target_of, columns_in, written_column, write_meant}
-use Rattle.write_parts.specs.Naming.{names_of, WriteNames}
-use Rattle.write_parts.specs.Typing.{types_of, WriteTypes}
+use Rattle.bind_write.specs.Meaning.{target_of, columns_in, written_column, write_meant}
+use Rattle.bind_write.specs.Naming.{names_of, WriteNames}
+use Rattle.bind_write.specs.Typing.{types_of, WriteTypes}
 
 -- no cause of names, rights or types stands
 pub record IsBindable (o : Objects) (user : Name) (t : WriteTree) : Type 0 where
@@ -39,16 +39,16 @@ pub record IsLeast (o : Objects) (user : Name) (t : WriteTree) (c : Cause) : Typ
   pub least : (d : Cause) → WriteNames o user t d ⊎ WriteTypes o t d → phase c ≤ phase d
 
 -- the query of an INSERT that has one: its entries have the columns of their tables and are read where these are bound, and no ON may fault
-abbrev pub IsGiven : Objects → List Attached → GivenTree → Option BoundQuery → Type 0
-IsGiven o bound (values rows) None = Unit {0}
-IsGiven o bound (values rows) (Some b) = ⊥
-IsGiven o bound (rows_of q) None = ⊥
-IsGiven o bound (rows_of q) (Some b) =
+abbrev pub IsGivenQuery : Objects → List Attached → GivenTree → Option BoundQuery → Type 0
+IsGivenQuery o bound (values rows) None = Unit {0}
+IsGivenQuery o bound (values rows) (Some b) = ⊥
+IsGivenQuery o bound (rows_of q) None = ⊥
+IsGivenQuery o bound (rows_of q) (Some b) =
     IsMeant (meant_by o q) b × ArePlaces bound (meant_by o q).entries (map offered.entry_place b.entries.items)
     × (bound_widths b ≡ widths (query_scope (shapes o) q)) × (are_safe_cores b.select.cores.items ≡ true)
 
 abbrev pub IsQueryOf : Objects → List Attached → WriteTree → Option BoundQuery → Type 0
-IsQueryOf o bound (insert i) q = IsGiven o bound i.given q
+IsQueryOf o bound (insert i) q = IsGivenQuery o bound i.given q
 IsQueryOf o bound (update u) q = q ≡ None
 IsQueryOf o bound (delete d) q = q ≡ None
 

@@ -22,8 +22,8 @@ use Rattle.med_binder.specs.Barred.{query_right_causes}
 use Rattle.med_binder.specs.Places.{Attached, ArePlaces}
 use Rattle.med_binder.specs.Queries.{meant_by}
 use Rattle.med_binder.specs.Tables.{shapes}
-use Rattle.write_parts.specs.Naming.{named_causes, names_of, set_names, set_values}
-use Rattle.write_parts.specs.Typing.{types_of}
+use Rattle.bind_write.specs.Naming.{named_causes, names_of, set_names, set_values}
+use Rattle.bind_write.specs.Typing.{types_of}
 use Rattle.bind_write.specs.declared.bound.TableWrite.{TableWrite}
 use Rattle.bind_write.specs.declared.updating.SetList.{SetList}
 use Rattle.bind_write.specs.Binding.{IsBoundWrite}

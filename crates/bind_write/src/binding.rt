@@ -6,8 +6,8 @@ ghost use Rattle.med_catalog.specs.View.{objects};
 ghost use Rattle.med_binder.specs.Tables.{AreNamedOnce};
 ghost use Rattle.med_binder.specs.Places.{attached};
 ghost use Rattle.med_syntax.specs.WriteView.{write_tree};
-ghost use Rattle.write_parts.specs.Naming.{WriteNames};
-ghost use Rattle.write_parts.specs.Typing.{WriteTypes};
+ghost use Rattle.bind_write.specs.Naming.{WriteNames};
+ghost use Rattle.bind_write.specs.Typing.{WriteTypes};
 ghost use Rattle.bind_write.specs.Binding.{IsBindable, IsMeantWrite, NotBound};
 ghost use Rattle.bind_write.specs.Steps.{BindsWrite};
 

@@ -9,13 +9,13 @@ ghost use Rattle.med_syntax.specs.WriteView.{delete_tree};
 ghost use Rattle.bind_write.specs.Steps.{BindsWrite};
 
 use crate::bound::TableWrite;
+use crate::{bind_values, find_target, table_in_view, written_columns};
 use med_binder::BoundTable;
 use med_catalog::Catalog;
 use med_syntax::Delete;
 use med_value::Cause;
 use med_write::{BoundWrite, RowWrite};
 use std::alloc::Global;
-use write_parts::{bind_values, find_target, table_in_view, written_columns};
 
 /// A DELETE over the tables of the catalogue, or why it is refused.
 pub(crate) fn delete_over(

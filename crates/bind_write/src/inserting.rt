@@ -15,13 +15,13 @@ ghost use Rattle.bind_write.specs.Steps.{BindsWrite};
 use crate::bound::TableWrite;
 use crate::querying::{ask_query, check_answer};
 use crate::values::{check_rows, resolve_rows};
+use crate::{check_named, find_target, places_for, written_columns};
 use med_binder::BoundTable;
 use med_catalog::Catalog;
 use med_syntax::{Expr as Written, Given, Insert, Statement};
 use med_value::Cause;
 use med_write::{BoundWrite, Given as GivenRows, RowWrite};
 use std::alloc::Global;
-use write_parts::{check_named, find_target, places_for, written_columns};
 
 // An INSERT of VALUES over the tables of the catalogue, or why it is refused.
 fn values_over(
@@ -41,7 +41,7 @@ fn values_over(
     let target = find_target(catalog, bound, user, table)?;
     check_named(target.columns, names)?;
     let given = resolve_rows(alloc, rows)?;
-    check_rows(alloc, target.columns, names, rows, given.as_slice())?;
+    check_rows(target.columns, names, rows, given.as_slice())?;
     Ok(TableWrite {
         place: target.place,
         source: target.source,
@@ -74,7 +74,7 @@ fn query_over(
 {
     let target = find_target(catalog, bound, user, table)?;
     let found = ask_query(alloc, catalog, bound, user, target.columns, names, query)?;
-    check_answer(alloc, target.columns, names, found.kinds.as_slice())?;
+    check_answer(target.columns, names, found.kinds.as_slice())?;
     Ok(TableWrite {
         place: target.place,
         source: target.source,

@@ -1,8 +1,7 @@
 //! The query of an INSERT.
 #![tactic(auto, using(bind_names::proofs::Causes::tells_memory))]
 
-ghost use Rattle.std.specs.Prelude.{◌≡◌, ◌↔◌, Some, IsTrue, length, map, flat_map, option_map};
-ghost use Rattle.med_value.specs.Causes.{phase_of};
+ghost use Rattle.std.specs.Prelude.{◌≡◌, length, map, flat_map, option_map};
 ghost use Rattle.med_value.specs.Column.{column_of};
 ghost use Rattle.med_syntax.specs.QueryView.{statement_tree};
 ghost use Rattle.med_syntax.specs.WriteView.{names_tree};
@@ -12,25 +11,15 @@ ghost use Rattle.med_catalog.specs.View.{objects};
 ghost use Rattle.med_binder.specs.Looked.{query_in};
 ghost use Rattle.med_binder.specs.Places.{attached};
 ghost use Rattle.med_binder.specs.Tables.{AreNamedOnce};
-ghost use Rattle.write_parts.specs.Typing.{row_fit_causes};
+ghost use Rattle.bind_write.specs.Typing.{row_fit_causes};
 ghost use Rattle.bind_write.specs.Steps.{AsksQuery};
 
-use med_binder::{BoundQuery, BoundTable, bind};
+use crate::{check_fit, check_named};
+use med_binder::{BoundQuery, BoundTable, named_query, typed_query};
 use med_catalog::Catalog;
 use med_syntax::Statement;
 use med_value::{Cause, ColType, ColumnDef};
 use std::alloc::Global;
-use write_parts::{check_fit, check_named};
-
-// Whether the cause is looked for once names are known.
-fn is_of_types(cause: Cause) -> bool
-    ensures { IsTrue result ↔ (phase_of cause ≡ Some 4) }
-{
-    match cause.phase() {
-        None => false,
-        Some(phase) => phase == 4,
-    }
-}
 
 /// The query with its names resolved, and the list of columns; or why they are refused. Columns are looked up once the tables of FROM are
 /// known, and types are judged last.
@@ -48,26 +37,14 @@ pub(crate) fn ask_query(
     ensures { AsksQuery (objects catalog.now) (map attached bound.now) user.now (map column_of columns.now)
         (option_map names_tree names.now) (query_in (statement_tree query.now)) result }
 {
-    match bind(alloc, query, catalog, bound, user) {
-        Ok(found) => {
-            check_named(columns, names)?;
-            Ok(found)
-        }
-        Err(cause) => {
-            if is_of_types(cause) {
-                check_named(columns, names)?;
-                Err(cause)
-            } else {
-                Err(cause)
-            }
-        }
-    }
+    let found = named_query(alloc, query, catalog, bound, user)?;
+    check_named(columns, names)?;
+    typed_query(alloc, found)
 }
 
 /// Whether the rows that a query answers can be inserted, whose cores answer values of these types: 42601 for more values than columns and
 /// for not as many as named columns, 42804 for a value of another type than its column.
 pub(crate) fn check_answer(
-    alloc: Global,
     columns: &[ColumnDef],
     names: &Option<Vec<String>>,
     kinds: &[Vec<Option<ColType>>],
@@ -76,7 +53,7 @@ pub(crate) fn check_answer(
         result }
 {
     for row in kinds {
-        check_fit(alloc, columns, names, row.as_slice())?;
+        check_fit(columns, names, row.as_slice())?;
     }
     Ok(())
 }

@@ -10,10 +10,14 @@ ghost use Rattle.med_binder.specs.Places.{attached};
 ghost use Rattle.tri_expr.specs.Tree.{tree};
 ghost use Rattle.med_syntax.specs.WriteTree.{update};
 ghost use Rattle.med_syntax.specs.WriteView.{set_tree, update_tree};
-ghost use Rattle.write_parts.specs.Meaning.{name_place};
+ghost use Rattle.bind_write.specs.Meaning.{name_place};
 ghost use Rattle.bind_write.specs.Steps.{BindsWrite, SplitsSets};
 
 use crate::bound::TableWrite;
+use crate::{
+    bind_values, cell_kinds, check_cells, check_list, find_target, name_place, table_in_view,
+    written_columns,
+};
 use bind_types::kinds_of;
 use med_binder::BoundTable;
 use med_catalog::Catalog;
@@ -22,10 +26,6 @@ use med_value::{Cause, ColumnDef, NoMemory};
 use med_write::{BoundWrite, RowWrite};
 use std::alloc::Global;
 use tri_expr::Expr;
-use write_parts::{
-    bind_values, cell_kinds, check_cells, check_list, find_target, name_place, table_in_view,
-    written_columns,
-};
 
 /// The columns of SET, and the expressions for them.
 pub(crate) struct SetList {

@@ -6,18 +6,21 @@ ghost use Rattle.std.specs.List.{list_all};
 ghost use Rattle.med_value.specs.Column.{column_of};
 ghost use Rattle.bind_names.specs.Telling.{Means, Passes};
 ghost use Rattle.med_syntax.specs.WriteView.{row_tree, names_tree};
+ghost use Rattle.tri_expr.specs.Tree.{tree};
 ghost use Rattle.med_write.specs.Form.{trees_of};
-ghost use Rattle.write_parts.specs.Meaning.{row_meant};
-ghost use Rattle.write_parts.specs.Naming.{row_name_causes};
-ghost use Rattle.write_parts.specs.Typing.{length_causes, row_fit_causes, row_type_causes, row_types, rows_fit_causes};
+ghost use Rattle.bind_write.specs.Meaning.{places_meant, row_meant};
+ghost use Rattle.bind_write.specs.Naming.{row_name_causes};
+ghost use Rattle.bind_write.specs.Typing.{cells_causes, length_causes, row_fit_causes, row_type_causes, row_types, rows_fit_causes, type_at};
 
+use crate::check_types;
+use crate::kinds::check_column;
+use crate::places::{check_count, place_of};
 use bind_query::values::resolve_values;
-use bind_types::kinds_of_all;
+use bind_types::kind_of;
 use med_syntax::Expr as Written;
-use med_value::{Cause, ColumnDef};
+use med_value::{Cause, ColType, ColumnDef};
 use std::alloc::Global;
 use tri_expr::Expr;
-use write_parts::{check_fit, check_types};
 
 /// The rows of VALUES, which see no column, with their names resolved; or why a name in one is refused.
 pub(crate) fn resolve_rows(alloc: Global, rows: &[Vec<Written>]) -> Result<Vec<Vec<Expr>>, Cause>
@@ -79,22 +82,49 @@ fn check_lengths(rows: &[Vec<Expr>]) -> Result<(), Cause>
     }
 }
 
+// The type of the expression in a place, which sees no column.
+fn kind_in(values: &[Expr], place: Option<usize>) -> Option<Option<ColType>>
+    ensures { result ≡ type_at (row_types (map tree values.now)) place }
+{
+    match place {
+        None => None,
+        Some(place) => match values.get(place) {
+            None => None,
+            Some(value) => Some(kind_of(&[], value)),
+        },
+    }
+}
+
+// 42804 for a value of another type than its column's.
+fn check_values(
+    columns: &[ColumnDef],
+    names: &Option<Vec<String>>,
+    values: &[Expr],
+) -> Result<(), Cause>
+    ensures { Passes (cells_causes (map column_of columns.now)
+        (map (type_at (row_types (map tree values.now))) (places_meant (option_map names_tree names.now) (map column_of columns.now))))
+        result }
+{
+    for (place, column) in columns.iter().enumerate() {
+        check_column(column, kind_in(values, place_of(names, columns, place)))?;
+    }
+    Ok(())
+}
+
 // Whether a row fits the columns.
 fn check_row(
-    alloc: Global,
     columns: &[ColumnDef],
     names: &Option<Vec<String>>,
     row: &Vec<Expr>,
 ) -> Result<(), Cause>
     ensures { Passes (row_fit_causes (map column_of columns.now) (option_map names_tree names.now) (row_types (trees_of row.now))) result }
 {
-    let kinds = kinds_of_all(alloc, &[], row.as_slice())?;
-    check_fit(alloc, columns, names, kinds.as_slice())
+    check_count(columns, names, row.len())?;
+    check_values(columns, names, row.as_slice())
 }
 
 // The same of each row.
 fn check_each(
-    alloc: Global,
     columns: &[ColumnDef],
     names: &Option<Vec<String>>,
     rows: &[Vec<Expr>],
@@ -103,7 +133,7 @@ fn check_each(
         (map trees_of rows.now)) result }
 {
     for row in rows {
-        check_row(alloc, columns, names, row)?;
+        check_row(columns, names, row)?;
     }
     Ok(())
 }
@@ -112,7 +142,6 @@ fn check_each(
 /// 42601 for rows of different lengths, for more values than columns and for not as many as named columns; 42804 for a value of another
 /// type than its column's.
 pub(crate) fn check_rows(
-    alloc: Global,
     columns: &[ColumnDef],
     names: &Option<Vec<String>>,
     rows: &[Vec<Written>],
@@ -124,5 +153,5 @@ pub(crate) fn check_rows(
 {
     check_each_types(rows, resolved)?;
     check_lengths(resolved)?;
-    check_each(alloc, columns, names, resolved)
+    check_each(columns, names, resolved)
 }

@@ -1,6 +1,5 @@
 -- What a disk holds, and what its calls do. `old` is before the call and `new` after it.
-use Rattle.std.specs.Prelude.{◌≡◌, ◌≢◌, ◌+◌, ℕ, Bool, true, false, List, [], ◌∷◌, ◌++◌, length, take}
-use Rattle.std.specs.Prelude.{Option, Some, None, option_map, Result, Ok, Err, OnOk, IfSome}
+use Rattle.std.specs.Prelude.{◌≡◌, ◌≢◌, ◌+◌, ℕ, Bool, true, false, List, [], ◌∷◌, ◌++◌, length, take, Option, Some, None, option_map, Result, Ok, Err, OnOk, IfSome}
 use Rattle.blob_store.specs.declared.disk.Told.{Told}
 use Rattle.blob_store.specs.declared.disk.Found.{Found}
 use Rattle.blob_store.specs.declared.disk.Kind.TheVariants.{Regular}

@@ -1,6 +1,5 @@
 -- What the files of a folder show as a store of blobs, and how one of them is replaced.
-use Rattle.std.specs.Prelude.{◌≡◌, ◌≢◌, ◌+◌, ◌<◌, ◌≤◌, ℕ, true, false, bit_and, List, [], ◌∷◌, ◌++◌, length, take, Vec}
-use Rattle.std.specs.Prelude.{Option, Some, None, option_map, Result, Ok, Err, IfSome, if◌then◌else◌}
+use Rattle.std.specs.Prelude.{◌≡◌, ◌≢◌, ◌+◌, ◌<◌, ◌≤◌, ℕ, true, false, bit_and, List, [], ◌∷◌, ◌++◌, length, take, Vec, Option, Some, None, option_map, Result, Ok, Err, IfSome, if◌then◌else◌}
 use Rattle.blob_store.specs.Names.{is_blob_name}
 use Rattle.blob_store.specs.Marks.{mark_under}
 use Rattle.blob_store.specs.Shelves.{Shelf, Standing, Known, Unknown}
@@ -56,9 +55,9 @@ IsUnchanged None (Seen stamp) = ⊥
 IsUnchanged (Some told) (Seen stamp) = told.stamp ≡ stamp
 
 -- nothing stands there, or a regular file that somebody may write
-abbrev pub IsOpen : Option Told → Type 0
-IsOpen None = Unit {0}
-IsOpen (Some told) = (told.kind ≡ Regular) × (bit_and told.mode 0o222 ≢ 0)
+abbrev pub MayBeWritten : Option Told → Type 0
+MayBeWritten None = Unit {0}
+MayBeWritten (Some told) = (told.kind ≡ Regular) × (bit_and told.mode 0o222 ≢ 0)
 
 -- Of a file that was made beside another, put in its place or given up: what of the drive stays.
 pub record KeepsOthers (old new : Drive) (draft path : List ℕ) : Type 0 where
@@ -101,7 +100,7 @@ pub record IsReady (d : Drive) (draft path : List ℕ) : Type 0 where
 -- A file is replaced whole: these bytes stand there, all synced, with the mode of the file that stood there, which was open and
 -- unchanged.
 pub record ReplacesWhole (old new : Drive) (draft path : List ℕ) (mark : Mark) (bytes : List ℕ) (stamp : Stamp) : Type 0 where
-  pub writable : IsOpen (told_at old path)
+  pub writable : MayBeWritten (told_at old path)
   pub unchanged : IsUnchanged (told_at old path) mark
   pub told : Told
   pub there : new.at path ≡ Some (record { told = told; bytes = bytes; synced = true })
@@ -121,7 +120,7 @@ count_of Barred = 0
 -- A file is not replaced: all but the draft is as it was, and a draft that was made is gone, or it could not be removed.
 pub record Keeps (old new : Drive) (draft path : List ℕ) (mark : Mark) (fault : PutFault) : Type 0 where
   pub failed : fault ≡ Failed → old.faults < new.faults
-  pub barred : fault ≡ Barred → IsOpen (told_at old path) → IsUnchanged (told_at old path) mark → ⊥
+  pub barred : fault ≡ Barred → MayBeWritten (told_at old path) → IsUnchanged (told_at old path) mark → ⊥
   pub others : (other : List ℕ) → other ≢ draft → new.at other ≡ old.at other
   pub cleared : new.at draft ≢ None → new.at draft ≢ old.at draft → old.faults + count_of fault < new.faults
 
@@ -131,10 +130,10 @@ PutsOrNot old new draft path mark bytes (Err fault) = Keeps old new draft path m
 
 -- A file is looked at, and may be replaced; or not, and a call that failed is counted.
 abbrev pub LooksOver : Drive → Drive → List ℕ → Mark → Result (Option Told) PutFault → Type 0
-LooksOver old new path mark (Ok told) = (new ≡ old) × (told ≡ told_at old path) × IsOpen told × IsUnchanged told mark
+LooksOver old new path mark (Ok told) = (new ≡ old) × (told ≡ told_at old path) × MayBeWritten told × IsUnchanged told mark
 LooksOver old new path mark (Err fault) =
     (new ≡ record old { faults = old.faults + count_of fault })
-    × (fault ≡ Barred → IsOpen (told_at old path) → IsUnchanged (told_at old path) mark → ⊥)
+    × (fault ≡ Barred → MayBeWritten (told_at old path) → IsUnchanged (told_at old path) mark → ⊥)
 
 -- The draft is made: a regular file without bytes. Where the folder is not locked, nothing stood there before.
 pub record Started (old new : Drive) (draft : List ℕ) (like : Option Told) : Type 0 where
@@ -227,7 +226,7 @@ pub record KeepsBlobs (old new : Drive) (folder name : List ℕ) (mark : Mark) (
   pub not_worn : fault ≢ blob_faults.Worn
   pub others : (other : List ℕ) → other ≢ path_in folder draft_name → new.at other ≡ old.at other
   pub device : fault ≡ blob_faults.Device → new.faults ≡ old.faults → length bytes ≤ most_bytes
-      → IsOpen (told_at old (path_in folder name)) → IsUnchanged (told_at old (path_in folder name)) mark → ⊥
+      → MayBeWritten (told_at old (path_in folder name)) → IsUnchanged (told_at old (path_in folder name)) mark → ⊥
   pub cleared : new.at (path_in folder draft_name) ≢ None → new.at (path_in folder draft_name) ≢ old.at (path_in folder draft_name)
       → old.faults < new.faults
 

@@ -2,7 +2,7 @@
 ghost use Rattle.std.specs.Prelude.{◌≡◌, ◌≢◌, ◌↔◌, Some, IsTrue};
 ghost use Rattle.blob_store.specs.Known.{KnownBoth, Sure};
 ghost use Rattle.blob_store.specs.Drives.{IsIn, IsInHeld};
-ghost use Rattle.blob_store.specs.Files.{IsReady, FillsOrNot, put_fault, IsOpen, IsUnchanged, LooksOver, Starts, Lands, PutsOrNot};
+ghost use Rattle.blob_store.specs.Files.{IsReady, FillsOrNot, put_fault, MayBeWritten, IsUnchanged, LooksOver, Starts, Lands, PutsOrNot};
 
 use crate::disk::{Disk, DiskFault, Kind, Stamp, Told};
 use crate::marks::Mark;
@@ -43,7 +43,7 @@ fn fill<D: Disk>(disk: &mut D, draft: &str, path: &str, bytes: &[u8]) -> Result<
 
 // Whether nothing stands there, or a regular file that somebody may write.
 fn is_open(told: Option<Told>) -> bool
-    ensures { IsTrue result ↔ IsOpen told }
+    ensures { IsTrue result ↔ MayBeWritten told }
 {
     match told {
         None => true,

@@ -15,8 +15,8 @@ use Rattle.fdw_api.specs.Writes.{row_after, inserted, rows_after}
 use Rattle.fdw_api.specs.declared.interface.Fault.{Fault}
 use Rattle.fdw_api.specs.declared.interface.Fault.TheVariants.{NoMemory, Source, Refused}
 use Rattle.csv_tables.specs.declared.table.CsvTable.{CsvTable}
-use Rattle.staged_changes.specs.declared.fates.Fate.{Fate}
-use Rattle.staged_changes.specs.declared.fates.Fate.TheVariants.{Keep}
+use Rattle.wrapper_parts.specs.declared.fates.Fate.{Fate}
+use Rattle.wrapper_parts.specs.declared.fates.Fate.TheVariants.{Keep}
 use Rattle.csv_tables.specs.declared.written.Gathered.{Gathered}
 use Rattle.csv_tables.specs.declared.written.Written.{Written}
 use Rattle.csv_tables.specs.Cells.{line_of}

@@ -5,7 +5,7 @@ use Rattle.std.proofs.lemmas.Bool.Decides.{nat_tests}
 use Rattle.std.proofs.lemmas.List.{take-append-le, drop-append-le, take_all, length-drop, length-append}
 use Rattle.std.proofs.lemmas.List.Elements.{Contains-append_left, Contains-append_right, Contains-push}
 use native.Mathlib.Nat.{suc-mul}
-use Rattle.csv.specs.Records.{Row, fields_of, partial_of}
+use Rattle.csv.specs.Records.{fields_of, partial_of}
 use Rattle.std.specs.Str.{is_utf8}
 use Rattle.csv_tables.specs.declared.content.Draft.{Draft}
 use Rattle.csv.specs.declared.record.ByteRecord.{ByteRecord}
@@ -81,20 +81,6 @@ pub tells_format : (shape : Shape) (bytes : List ℕ) (before : List Record) (r 
 tells_format shape bytes before r more is bad =
     let e : all_whole shape bytes ≡ false = and_false (nat_lt 0 (length shape.kinds)) _ (ap (list_all (is_whole (length shape.kinds))) is ∙ all_at (is_whole (length shape.kinds)) before r more bad) in
     under (nat_le (length bytes) 67108864) TooLarge InvalidFormat _ (told (all_whole shape bytes) InvalidFormat _ e)
-
--- a table without columns
-pub tells_no_columns : (shape : Shape) (bytes : List ℕ) → length shape.kinds ≡ 0 → Contains (content_causes shape bytes) InvalidFormat
-tells_no_columns shape bytes none =
-    let z : nat_lt 0 (length shape.kinds) ≡ false = rw none refl in
-    let e : all_whole shape bytes ≡ false = ap (λ (b : Bool). b && list_all (is_whole (length shape.kinds)) (csv_records bytes)) z in
-    under (nat_le (length bytes) 67108864) TooLarge InvalidFormat _ (told (all_whole shape bytes) InvalidFormat _ e)
-
--- too many bytes
-pub tells_size : (shape : Shape) (bytes : List ℕ) → 67108864 < length bytes → Contains (content_causes shape bytes) TooLarge
-tells_size shape bytes lt = told (nat_le (length bytes) 67108864) TooLarge _ (not_le (length bytes) lt)
-  where
-    not_le : (n : ℕ) → 67108864 < n → nat_le n 67108864 ≡ false
-    not_le n l = grind (arith, nat_tests)
 
 -- the rows behind the header
 pub body_behind : (header : Bool) (dh : Option ByteRecord) (rows : List Record) (tail : List Record) → (header && not (is_some dh)) ≡ false → (header ≡ false → header_in dh ≡ []) → body header ((header_in dh ++ rows) ++ tail) ≡ rows ++ tail
@@ -199,36 +185,6 @@ row_drafted shape d e f was eh lines ep ec few flag whole readable =
         at true q h = grind (arith, nat_tests)
         at false q h = absurd cc
 
--- the header that is taken in
-pub header_drafted : (shape : Shape) (d e : Draft) (x : ByteRecord) (f : Record) → IsDraft shape d → e.header ≡ Some x → fields_of x ≡ f → e.fields ≡ d.fields → e.count ≡ d.count → Awaits shape d ≡ true → is_whole (length shape.kinds) f ≡ true
-    → IsDraft shape e × (records_so_far shape e ≡ records_so_far shape d ++ f ∷ [])
-header_drafted shape d e x f was eh ef es ec flag whole =
-    let on = awaited shape.header d.header flag in
-    let zero_rows : d.count ≡ 0 = was.header_first on.0 on.1 in
-    let rows : rows_so_far shape e ≡ [] = ap (λ (n : ℕ). cut_into n (length shape.kinds) (held_of e.fields)) (ec ∙ zero_rows) in
-    let old : rows_so_far shape d ≡ [] = ap (λ (n : ℕ). cut_into n (length shape.kinds) (held_of d.fields)) zero_rows in
-    let head : header_in e.header ≡ f ∷ [] = ap header_in eh ∙ ap (λ (r : Record). r ∷ []) ef in
-    let all : records_so_far shape e ≡ f ∷ [] = ap (λ (l : List Record). header_in e.header ++ l) rows ∙ ap (λ (l : List Record). l ++ []) head in
-    let before : records_so_far shape d ≡ [] = ap (λ (l : List Record). header_in d.header ++ l) old ∙ ap (λ (l : List Record). l ++ []) on.1 in (
-      record {
-        columns = was.columns;
-        full = ap (λ (n : ℕ). n * length shape.kinds) ec ∙ was.full ∙ sym (ap (λ (r : Row). length (held_of r)) es);
-        no_partial = ap partial_of es ∙ was.no_partial;
-        lines = ap fields_of es ∙ was.lines ∙ ap (flat_map ended) (old ∙ sym rows);
-        few = let w = was.few in omega arith;
-        no_header = λ h. absurd (let t = on.0 in cc);
-        header_first = λ h z. ec ∙ zero_rows;
-        whole = ap (list_all (is_whole (length shape.kinds))) all ∙ rw whole refl;
-        readable = ap (list_all (reads shape)) rows;
-      },
-      all ∙ sym (ap (λ (l : List Record). l ++ f ∷ []) before),
-    )
-  where
-    awaited : (b : Bool) (o : Option ByteRecord) → (b && not (is_some o)) ≡ true → (b ≡ true) × (header_in o ≡ [])
-    awaited true None h = (refl, refl)
-    awaited true (Some y) h = absurd cc
-    awaited false o h = absurd cc
-
 -- the header of an image, of a blob with these records
 pub heading_some : (h : Bool) (names : Record) (rows : List Record) (r : Record) (more : List Record) → not h ≡ false → rows ≡ r ∷ more → r ∷ [] ≡ heading h names rows
 heading_some true names rows r more e is = sym (ap (heading true names) is)
@@ -242,11 +198,3 @@ pub heading_first : (h : Bool) (names : Record) (dh : Option ByteRecord) (rows a
 heading_first true names None rows all f g is = ap (heading true names) (is ∙ g refl refl)
 heading_first true names (Some x) rows all f g is = ap (heading true names) is
 heading_first false names dh rows all f g is = refl
-
-pub not_true : (b : Bool) → not b ≡ true → b ≡ false
-not_true true e = absurd cc
-not_true false e = refl
-
-pub not_false : (b : Bool) → not b ≡ false → b ≡ true
-not_false true e = refl
-not_false false e = absurd cc

@@ -1,5 +1,5 @@
 -- Going over the fields of a record.
-use Rattle.std.proofs.Common.{◌≡◌, ℕ, zero, suc, ◌+◌, ◌-◌, ◌<◌, ◌≤◌, Bool, true, false, ◌&&◌, List, [], ◌∷◌, length, take, drop, Some, None, slice_get, is_some, Result, Ok, Err, refl, ap, ◌∙◌, subst, arith}
+use Rattle.std.proofs.Common.{◌≡◌, ℕ, zero, suc, ◌+◌, ◌-◌, ◌<◌, Bool, true, false, ◌&&◌, List, [], ◌∷◌, length, take, drop, Some, None, slice_get, is_some, Result, Ok, Err, refl, ap, ◌∙◌, subst, arith}
 use Rattle.std.specs.List.{list_all}
 use Rattle.std.specs.Result.{MatchResult, is_err}
 use Rattle.std.specs.Str.{IsAscii, IsUtf8, is_utf8}
@@ -85,15 +85,6 @@ cell_next null ks fs i k f ek ef e = both_next null ks fs i k f ek ef ∙ rw e r
 
 pub cell_fails : (null : List ℕ) (ks : List ColType) (fs : Record) (i : ℕ) (k : ColType) (f : List ℕ) → slice_get ks i ≡ Some k → field_at fs i ≡ Some f → is_some (cell_of null k f) ≡ false → is_readable null (drop i ks) (drop i fs) ≡ false
 cell_fails null ks fs i k f ek ef e = both_next null ks fs i k f ek ef ∙ rw e refl
-
-no_more : (ks : List ColType) (i : ℕ) → length ks ≤ i → drop i ks ≡ []
-no_more [] zero le = refl
-no_more [] (suc i) le = refl
-no_more (x ∷ ks) zero le = absurd (omega arith)
-no_more (x ∷ ks) (suc i) le = no_more ks i (omega arith)
-
-pub columns_end : (null : List ℕ) (ks : List ColType) (fs : Record) (i : ℕ) → length ks ≤ i → is_readable null (drop i ks) (drop i fs) ≡ true
-columns_end null ks fs i le = ap (λ (l : List ColType). is_readable null l (drop i fs)) (no_more ks i le)
 
 readable_none : (null : List ℕ) (ks : List ColType) → is_readable null ks [] ≡ true
 readable_none null [] = refl

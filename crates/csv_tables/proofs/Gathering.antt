@@ -1,27 +1,26 @@
 -- Records that are put together, and what a write leaves of records.
-use Rattle.std.proofs.Common.{◌≡◌, ℕ, zero, suc, ◌+◌, ◌*◌, ◌-◌, ◌<◌, ◌≤◌, Bool, true, false, ◌&&◌, nat_eq, List, [], ◌∷◌, ◌++◌, length, map, flat_map, replicate, take, drop, slice_set, Result, refl, ap, sym, ◌∙◌, subst, arith}
+use Rattle.std.proofs.Common.{◌≡◌, ℕ, zero, suc, ◌+◌, ◌*◌, ◌-◌, ◌≤◌, Bool, true, false, ◌&&◌, nat_eq, List, [], ◌∷◌, ◌++◌, length, map, flat_map, replicate, take, drop, slice_set, Result, refl, ap, sym, ◌∙◌, subst, arith}
 use Rattle.std.specs.List.{list_all}
 use Rattle.std.specs.Result.{IfOk}
 use Rattle.std.specs.Str.{is_utf8}
 use Rattle.std.proofs.lemmas.Bool.Decides.{nat_tests}
 use Rattle.std.proofs.lemmas.List.{length-append, length-drop, length-take-le, length_push, append_assoc, drop-drop}
-use native.Mathlib.Nat.{mul-le-mul_right, suc-mul}
 use Rattle.csv.specs.Records.{fields_of, partial_of}
 use Rattle.csv.specs.declared.record.ByteRecord.{ByteRecord}
 use Rattle.med_value.specs.Datum.{Tuple}
 use Rattle.fdw_api.specs.Kinds.{Held, held, Change}
 use Rattle.fdw_api.specs.Writes.{row_after}
-use Rattle.staged_changes.specs.declared.fates.Fate.{Fate}
-use Rattle.staged_changes.specs.declared.fates.Fate.TheVariants.{Keep}
+use Rattle.wrapper_parts.specs.declared.fates.Fate.{Fate}
+use Rattle.wrapper_parts.specs.declared.fates.Fate.TheVariants.{Keep}
 use Rattle.csv_tables.specs.declared.written.Gathered.{Gathered}
 use Rattle.csv_tables.specs.Cells.{line_of}
 use Rattle.csv_tables.specs.CsvRecords.{Record, is_whole}
 use Rattle.csv_tables.specs.Shapes.{Shape, read_row}
 use Rattle.csv_tables.specs.declared.table.Rows.{Rows}
-use Rattle.csv_tables.specs.Tables.{numbered, record_at, records_of}
+use Rattle.csv_tables.specs.Tables.{numbered, records_of}
 use Rattle.csv_tables.specs.Rewriting.{is_wide, Gathers}
-use Rattle.staged_changes.proofs.Weaves.{left_from}
-use Rattle.csv_tables.proofs.Flat.{cut_length, texts_take, texts_drop}
+use Rattle.wrapper_parts.proofs.Weaves.{left_from}
+use Rattle.csv_tables.proofs.Flat.{cut_length}
 use Rattle.csv_tables.proofs.Holding.{ended_more, ended_both, whole_both, whole_take, whole_drop, rows_whole, rows_range}
 use Rattle.csv_tables.specs.Held.{held_of, ended}
 
@@ -92,10 +91,6 @@ run_none done rs at =
     let z : at - at ≡ 0 = omega arith in
     sym (append_none done) ∙ ap (λ (k : ℕ). done ++ take k (drop at rs)) (sym z)
 
--- none as yet
-pub gathers_none : (width : ℕ) (g : Gathered) → fields_of g.fields ≡ [] → partial_of g.fields ≡ [] → g.count ≡ 0 → Gathers width [] g
-gathers_none width g ef ep ec = record { no_partial = ep; count_is = sym ec; whole = refl; lines = ef }
-
 pub gathers_as : (width : ℕ) (xs ys : List Record) (g : Gathered) → Gathers width xs g → xs ≡ ys → Gathers width ys g
 gathers_as width xs ys g h e = subst (λ (l : List Record). Gathers width l g) e h
 
@@ -137,28 +132,6 @@ pub wide_set : (width : ℕ) (fs : List (Fate ByteRecord)) (j : ℕ) (f : Fate B
 wide_set width [] j f h e = refl
 wide_set width (g ∷ fs) zero f h e = let w = both (is_wide width g) (list_all (is_wide width) fs) h in rw e w.1
 wide_set width (g ∷ fs) (suc j) f h e = let w = both (is_wide width g) (list_all (is_wide width) fs) h in rw w.0 (wide_set width fs j f w.1 e)
-
--- a record of a table is as wide as the table, and UTF-8
-pub record_width : (r : Rows) (at : ℕ) → at < r.count → is_whole r.width (record_at r at) ≡ true
-record_width r at lt =
-    let e : suc at * r.width ≡ at * r.width + r.width = suc-mul at r.width in
-    let m : suc at * r.width ≤ r.count * r.width = mul-le-mul_right r.width (omega arith) in
-    let d = length-drop (at * r.width) (held_of r.fields) in
-    let whole = r.whole in
-    let le : r.width ≤ length (drop (at * r.width) (held_of r.fields)) = omega arith in
-    whole_is r.width (record_at r at) (length_taken r.width (drop (at * r.width) (held_of r.fields)) le)
-    (texts_take r.width (drop (at * r.width) (held_of r.fields)) (texts_drop (at * r.width) (held_of r.fields) r.texts))
-  where
-    length_taken : (w : ℕ) (fs : Record) → w ≤ length fs → length (take w fs) ≡ w
-    length_taken zero fs h = refl
-    length_taken (suc w) [] h = absurd (omega arith)
-    length_taken (suc w) (f ∷ fs) h = ap suc (length_taken w fs (omega arith))
-
-    same : (m n : ℕ) → m ≡ n → nat_eq m n ≡ true
-    same m n e = grind (arith, nat_tests)
-
-    whole_is : (w : ℕ) (fs : Record) → length fs ≡ w → list_all is_utf8 fs ≡ true → is_whole w fs ≡ true
-    whole_is w fs e h = rw (same (length fs) w e) h
 
 pub no_lines : (l : List ByteRecord) → length l ≡ 0 → l ≡ []
 no_lines [] e = refl

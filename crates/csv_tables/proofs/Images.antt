@@ -13,12 +13,16 @@ use Rattle.fdw_api.specs.Kinds.{Held, held, Bytes, Change, Inserts, Updates, Del
 use Rattle.fdw_api.specs.Writes.{row_after, inserted, row_of_change_fits}
 use Rattle.csv_tables.specs.Cells.{cell_of, is_readable, field_of, line_of, reads_as_null}
 use Rattle.csv_tables.specs.CsvRecords.{Record, csv_records, csv_text, is_whole, heading, body, has_field, is_header}
-use Rattle.csv_tables.specs.Shapes.{Shape, read_row, unless, csv_reading, content_causes, all_whole, all_readable, hides_value}
+use Rattle.csv_tables.specs.Shapes.{Shape, read_row, unless, csv_reading, content_causes, all_whole, all_readable, hides_value, rows_text}
 use Rattle.csv_tables.specs.Tables.{numbered}
 use Rattle.csv_tables.specs.Rewriting.{is_storable}
-use Rattle.csv_tables.specs.ReadAgain.{IsUnmarked, IsTable, IsKept, is_change_storable, rows_left, text_left, records_left}
+use Rattle.csv_tables.specs.ReadAgain.{IsUnmarked, IsTable, IsKept, is_change_storable, rows_left, records_left}
 use Rattle.csv_tables.proofs.ReadBack.{cell_back, row_back, line_width, decimal_utf8, one_ascii}
 use Rattle.csv_tables.proofs.Again.{again}
+
+-- the bytes of the blob that is written of them
+abbrev pub text_left : Shape → List Record → List Record → List Change → List ℕ
+text_left shape header records changes = rows_text header (rows_left shape records changes)
 
 both : (a b : Bool) → (a && b) ≡ true → (a ≡ true) × (b ≡ true)
 both true b e = (refl, e)

@@ -1,5 +1,5 @@
 -- The number that digits write, read byte by byte.
-use Rattle.std.proofs.Common.{◌≡◌, ◌≢◌, ℕ, pos, neg_ℤ, ◌+◌, ◌-◌, ◌*◌, ◌^◌, ◌<◌, ◌≤◌, ◌⊎◌, inl, inr, Bool, true, false, ◌&&◌, if◌then◌else◌, nat_lt, nat_le, List, [], ◌∷◌, length, Some, None, option_map, refl, ap, sym, subst, ◌∙◌, arith, eqb}
+use Rattle.std.proofs.Common.{◌≡◌, ◌≢◌, ℕ, pos, ◌+◌, ◌-◌, ◌*◌, ◌^◌, ◌<◌, ◌≤◌, ◌⊎◌, inl, inr, Bool, true, false, ◌&&◌, if◌then◌else◌, nat_lt, nat_le, List, [], ◌∷◌, length, Some, None, option_map, refl, ap, sym, subst, ◌∙◌, arith, eqb}
 use Rattle.std.proofs.Math.Nat.{one-le-pow, pow-le-pow_right, mul-le-mul_left, mul-le-mul_right}
 use Rattle.std.proofs.lemmas.Grind.{pow_more}
 use Rattle.std.specs.Char.{is_ascii_digit, digit_value}
@@ -17,22 +17,8 @@ le_after : (n : ℕ) (ds : List ℕ) → n ≤ digits_value_after 10 n ds
 le_after n [] = omega arith
 le_after n (c ∷ cs) = let l = le_after (n * 10 + digit_value c) cs in omega arith
 
-pub not_up_to : (most : ℕ) (text : List ℕ) → all_ascii_digits text ≡ false → number_up_to most text ≡ None
-not_up_to most text e = by (nat_lt 0 (length text))
-  where
-    by : (b : Bool) → (if b && all_ascii_digits text && nat_le (digits_value 10 text) most then Some (digits_value 10 text) else None) ≡ None
-    by true = rw e refl
-    by false = refl
-
--- a byte that is no digit
-pub no_digit : (most n c : ℕ) (cs text : List ℕ) → GoesOn n (c ∷ cs) text → is_ascii_digit c ≡ false → number_up_to most text ≡ None
-no_digit most n c cs text on e = not_up_to most text (sym on.digits ∙ rw e refl)
-
 over : (most v : ℕ) → most < v → nat_le v most ≡ false
 over most v lt = grind (arith, nat_tests)
-
-within : (most v : ℕ) → v ≤ most → nat_le v most ≡ true
-within most v le = grind (arith, nat_tests)
 
 too_much : (most : ℕ) (text : List ℕ) → most < digits_value 10 text → number_up_to most text ≡ None
 too_much most text lt = by (nat_lt 0 (length text) && all_ascii_digits text)
@@ -47,22 +33,6 @@ too_great most n c cs text on lt =
     let l = le_after (n * 10 + digit_value c) cs in
     let v = on.value in
     too_much most text (omega arith)
-
-pub is_great : (most n : ℕ) (text : List ℕ) → GoesOn n [] text → most < n → number_up_to most text ≡ None
-is_great most n text on lt = let v = on.value in too_much most text (omega arith)
-
-pub is_number : (most n : ℕ) (text : List ℕ) → GoesOn n [] text → 0 < length text → n ≤ most → number_up_to most text ≡ Some n
-is_number most n text on lt le =
-    let v : digits_value 10 text ≡ n = sym on.value in
-    let d : all_ascii_digits text ≡ true = sym on.digits in
-    rw (some (length text) lt, d, v, within most n le) refl
-  where
-    some : (k : ℕ) → 0 < k → nat_lt 0 k ≡ true
-    some k l = grind (arith, nat_tests)
-
-pub no_text : (most : ℕ) (text : List ℕ) → length text ≡ 0 → number_up_to most text ≡ None
-no_text most [] e = refl
-no_text most (c ∷ cs) e = absurd (omega arith)
 
 -- one digit more
 pub goes_on : (n c : ℕ) (cs text : List ℕ) → GoesOn n (c ∷ cs) text → is_ascii_digit c ≡ true → 48 ≤ c → c ≤ 57 → GoesOn (n * 10 + (c - 48)) cs text
@@ -109,12 +79,6 @@ one_digit_more n c d cs l text e same is low high (on, room) =
 mapped : {X Y : Type 0} (f : X → Y) (b : Bool) (x : X) → option_map f (if b then Some x else None) ≡ (if b then Some (f x) else None)
 mapped f true x = refl
 mapped f false x = refl
-
-pub with_minus : (cs : List ℕ) → option_map (λ n. neg_ℤ (pos n)) (number_up_to (2 ^ 63) cs) ≡ integer_of (45 ∷ cs)
-with_minus cs = mapped (λ n. neg_ℤ (pos n)) (nat_lt 0 (length cs) && all_ascii_digits cs && nat_le (digits_value 10 cs) (2 ^ 63)) (digits_value 10 cs)
-
-pub with_plus : (cs : List ℕ) → option_map pos (number_up_to (2 ^ 63 - 1) cs) ≡ integer_of (43 ∷ cs)
-with_plus cs = mapped pos (nat_lt 0 (length cs) && all_ascii_digits cs && nat_le (digits_value 10 cs) (2 ^ 63 - 1)) (digits_value 10 cs)
 
 pub without_sign : (c : ℕ) (cs : List ℕ) → c ≢ 45 → c ≢ 43 → option_map pos (number_up_to (2 ^ 63 - 1) (c ∷ cs)) ≡ integer_of (c ∷ cs)
 without_sign c cs m p = split (eqb_tells c 45) (eqb_tells c 43)

@@ -44,11 +44,6 @@ prev_next s (e ∷ f ∷ es) (suc i) d lt =
     let p : suc i + 1 ≡ suc (i + 1) = omega arith in
     ap (prev s (e ∷ f ∷ es)) p ∙ prev_next e (f ∷ es) i d (omega arith)
 
-pub prev_last : (s : ℕ) (ends : List ℕ) → prev s ends (length ends) ≡ last_end s ends
-unfolding prev last_end
-prev_last s [] = refl
-prev_last s (e ∷ es) = prev_last e es
-
 pub prev_within : (s : ℕ) (ends : List ℕ) (size i : ℕ) → Rising s ends size → (s ≤ prev s ends i) × (prev s ends i ≤ size)
 unfolding prev Rising
 prev_within s [] size i h = (omega arith, h)

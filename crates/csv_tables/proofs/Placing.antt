@@ -1,37 +1,13 @@
 -- Restrictions one after the other, and the row at a place.
-use Rattle.std.proofs.Common.{◌≡◌, ℕ, ◌+◌, ◌<◌, Bool, true, false, ◌&&◌, List, [], ◌∷◌, Some, length, drop, slice_get, zero, suc, refl, ap, sym, ◌∙◌, arith}
-use Rattle.med_value.specs.Datum.{Tuple}
-use Rattle.fdw_api.specs.Scan.{RestrictionForm, TableRow, meets}
-use Rattle.fdw_api.specs.declared.scan.Agree.{Agree}
-use Rattle.fdw_api.specs.declared.scan.Agree.TheVariants.{Ignored, Hint, Exact}
+use Rattle.std.proofs.Common.{◌≡◌, ℕ, ◌+◌, ◌<◌, List, [], ◌∷◌, Some, length, drop, slice_get, zero, suc, refl, ap, sym, ◌∙◌, arith}
+use Rattle.fdw_api.specs.Scan.{TableRow}
 use Rattle.csv_tables.specs.declared.table.CsvTable.{CsvTable}
 use Rattle.csv_tables.specs.CsvRecords.{Record}
 use Rattle.csv_tables.specs.Shapes.{Shape}
-use Rattle.csv_tables.specs.Tables.{shape_is, records_of, cells_at, fields_at, field_size, numbered}
+use Rattle.csv_tables.specs.Tables.{shape_is, records_of, cells_at, fields_at, numbered}
 use Rattle.csv_tables.specs.Rewriting.{rows_in}
-use Rattle.csv_tables.specs.Scans.{comes, may_meet}
 use Rattle.csv_tables.proofs.Flat.{cut_drop, cut_length}
 use Rattle.csv_tables.specs.Held.{held_of}
-
-passed : (b x : Bool) → (b && true) ≡ true → (b && x) ≡ x
-passed true x e = refl
-passed false x e = absurd cc
-
-failed : (b x : Bool) → (b && true) ≡ false → (b && x) ≡ false
-failed true x e = absurd cc
-failed false x e = refl
-
--- past a restriction that lets the record come
-pub comes_more : (f : RestrictionForm) (fs : List RestrictionForm) (a : Agree) (answers : List Agree) (params cells : Tuple) (r : Record) → comes (f ∷ []) (a ∷ []) params cells r ≡ true → comes (f ∷ fs) (a ∷ answers) params cells r ≡ comes fs answers params cells r
-comes_more f fs Exact answers params cells r e = passed (meets params cells f) (comes fs answers params cells r) e
-comes_more f fs Hint answers params cells r e = passed (may_meet params (field_size r f.column) f.test) (comes fs answers params cells r) e
-comes_more f fs Ignored answers params cells r e = refl
-
--- at one that does not
-pub comes_fails : (f : RestrictionForm) (fs : List RestrictionForm) (a : Agree) (answers : List Agree) (params cells : Tuple) (r : Record) → comes (f ∷ []) (a ∷ []) params cells r ≡ false → comes (f ∷ fs) (a ∷ answers) params cells r ≡ false
-comes_fails f fs Exact answers params cells r e = failed (meets params cells f) (comes fs answers params cells r) e
-comes_fails f fs Hint answers params cells r e = failed (may_meet params (field_size r f.column) f.test) (comes fs answers params cells r) e
-comes_fails f fs Ignored answers params cells r e = absurd cc
 
 -- rows with ids from a place on
 drop_numbered : (shape : Shape) (n at : ℕ) (rs : List Record) → drop at (numbered shape n rs) ≡ numbered shape (n + at) (drop at rs)

@@ -5,15 +5,18 @@ use Rattle.std.proofs.lemmas.Bool.Decides.{nat_tests}
 use Rattle.std.proofs.lemmas.List.{append-nil, append_assoc, take_more}
 use Rattle.csv.specs.Writing.{default_writer, needs_byte, needs_quotes, field_text, fields_text, is_blank, row_body, row_text}
 use Rattle.csv_tables.specs.CsvRecords.{Record, csv_text, is_whole}
-use Rattle.csv_tables.specs.Held.{ended, line_text, special, special_in}
+use Rattle.csv_tables.specs.Held.{ended, special, special_in, held_of}
 use Rattle.csv_tables.specs.declared.table.Rows.{Rows}
 use Rattle.csv.specs.Records.{fields_of}
 use native.Mathlib.Nat.{suc-mul}
-use Rattle.csv_tables.specs.Held.{held_of}
 use Rattle.csv_tables.specs.Tables.{records_of}
 use Rattle.csv_tables.proofs.Flat.{cut_length}
 use Rattle.csv_tables.proofs.Holding.{width_is, rows_whole}
 use Rattle.csv_tables.proofs.FieldSteps.{both}
+
+-- a record as it stands in such a text, and as it stands in a blob where no field needs quotes
+abbrev pub line_text : Record → List ℕ
+line_text fields = flat_map (λ f. f) (ended fields)
 
 special_both : (xs ys : List ℕ) → special_in (xs ++ ys) ≡ special_in xs + special_in ys
 special_both [] ys = omega arith

@@ -1,12 +1,12 @@
 -- A written row is read again as it is.
-use Rattle.std.proofs.Common.{◌≡◌, ◌≢◌, ℕ, ℤ, pos, negsuc, zero, suc, ◌+◌, ◌-◌, ◌^◌, ◌<◌, ◌≤◌, ◌⊎◌, inl, inr, Bool, true, false, not, ◌&&◌, ◌||◌, if◌then◌else◌, nat_eq, nat_lt, nat_le, List, [], ◌∷◌, ◌++◌, length, map, take, get_or, reverse, codes, Option, Some, None, option_map, unwrap_or, Contains, refl, ap, sym, ◌∙◌, arith, lit<, eqb}
+use Rattle.std.proofs.Common.{◌≡◌, ◌≢◌, ℕ, ℤ, pos, negsuc, zero, suc, ◌+◌, ◌-◌, ◌^◌, ◌<◌, ◌≤◌, ◌⊎◌, inl, inr, Bool, true, false, not, ◌&&◌, ◌||◌, if◌then◌else◌, nat_eq, nat_lt, nat_le, List, [], ◌∷◌, ◌++◌, length, map, get_or, reverse, codes, Option, Some, None, option_map, unwrap_or, Contains, refl, ap, sym, ◌∙◌, arith, lit<, eqb}
 use Rattle.std.specs.List.{list_all, list_any}
 use Rattle.std.specs.Fmt.{decimal, signed_decimal}
 use Rattle.std.specs.Str.{IsAscii, IsUtf8, is_utf8, bytes_eq, all_ascii_digits}
 use Rattle.std.specs.Str.Parse.{AllDigits, digits_value}
 use Rattle.std.proofs.Math.IntN.{neg_ℤ}
 use Rattle.std.proofs.lemmas.Bool.Decides.{eqb_tells, nat_tests}
-use Rattle.std.proofs.lemmas.List.{reverse-append, reverse-reverse, take_more, map-append}
+use Rattle.std.proofs.lemmas.List.{reverse-append, reverse-reverse}
 use lib.Pointwise.{bytes_decides}
 use Rattle.std.proofs.lemmas.Str.{IsUtf8-from_ascii, IsUtf8-from_is_utf8}
 use Rattle.std.proofs.lemmas.Str.Parse.{IsNumeralModel, numerals_by_value, tells_all_ascii_digits, digit_from_value}
@@ -17,7 +17,7 @@ use Rattle.med_value.specs.declared.value.ColType.{ColType}
 use Rattle.med_value.specs.declared.value.ColType.TheVariants as types
 use Rattle.med_value.specs.declared.cause.Cause.{Cause}
 use Rattle.fdw_api.specs.Scan.{row_fits, has_kind, is_clean}
-use Rattle.csv_tables.specs.Cells.{cell_of, value_of, integer_of, skip_spaces, without_spaces, record_cells, field_of, line_of, reads_as_null}
+use Rattle.csv_tables.specs.Cells.{cell_of, field_value, integer_of, skip_spaces, without_spaces, record_cells, field_of, line_of, reads_as_null}
 use Rattle.csv_tables.specs.Shapes.{unless}
 use Rattle.csv_tables.specs.Rewriting.{is_i64, is_storable}
 use Rattle.csv_tables.proofs.Fields.{cell_typed, int_cell, bool_cell}
@@ -147,7 +147,7 @@ same_bytes t = (bytes_decides t t).1 refl
 
 -- a value is read again from its field
 pub cell_back : (null : List ℕ) (kind : ColType) (v : Datum) → (has_kind kind v && is_clean v) ≡ true → reads_as_null null v ≡ false → is_storable v ≡ true → unwrap_or (cell_of null kind (field_of null v)) NoValue ≡ v
-cell_back null kind NoValue fits clear held = no_value (is_utf8 null) (bytes_eq null null) (value_of kind null) (same_bytes null)
+cell_back null kind NoValue fits clear held = no_value (is_utf8 null) (bytes_eq null null) (field_value kind null) (same_bytes null)
 cell_back null types.Int (Whole z) fits clear held =
     ap (λ (o : Option Datum). unwrap_or o NoValue)
     (int_cell null types.Int (signed_decimal z) refl (decimal_utf8 z held) clear (decimal_some z held)
@@ -180,28 +180,6 @@ line_width null [] [] fits = refl
 line_width null [] (v ∷ vs) fits = absurd cc
 line_width null (k ∷ ks) [] fits = absurd cc
 line_width null (k ∷ ks) (v ∷ vs) fits = ap suc (line_width null ks vs (both (has_kind k v && is_clean v) (row_fits ks vs) fits).1)
-
--- values one after the other
-any_more : (p : Datum → Bool) (xs : Tuple) (v : Datum) → list_any p xs ≡ false → p v ≡ false → list_any p (xs ++ v ∷ []) ≡ false
-any_more p [] v h e = rw e refl
-any_more p (x ∷ xs) v h e = let n = neither (p x) (list_any p xs) h in rw n.0 (any_more p xs v n.1 e)
-
-all_more : (p : Datum → Bool) (xs : Tuple) (v : Datum) → list_all p xs ≡ true → p v ≡ true → list_all p (xs ++ v ∷ []) ≡ true
-all_more p [] v h e = rw e refl
-all_more p (x ∷ xs) v h e = let n = both (p x) (list_all p xs) h in rw n.0 (all_more p xs v n.1 e)
-
-next_value : (xs : List Value) (i : ℕ) (v : Value) → i < length xs → v ≡ get_or xs i v → map datum (take (i + 1) xs) ≡ map datum (take i xs) ++ datum v ∷ []
-next_value xs i v lt e = ap (map datum) (take_more xs i v lt) ∙ map-append datum (take i xs) (get_or xs i v ∷ []) ∙ ap (λ (w : Value). map datum (take i xs) ++ datum w ∷ []) (sym e)
-
-pub clear_more : (p : Datum → Bool) (xs : List Value) (i : ℕ) (v : Value) → i < length xs → v ≡ get_or xs i v → list_any p (map datum (take i xs)) ≡ false → p (datum v) ≡ false → list_any p (map datum (take (i + 1) xs)) ≡ false
-clear_more p xs i v lt e h q = ap (list_any p) (next_value xs i v lt e) ∙ any_more p (map datum (take i xs)) (datum v) h q
-
-pub held_more : (p : Datum → Bool) (xs : List Value) (i : ℕ) (v : Value) → i < length xs → v ≡ get_or xs i v → list_all p (map datum (take i xs)) ≡ true → p (datum v) ≡ true → list_all p (map datum (take (i + 1) xs)) ≡ true
-held_more p xs i v lt e h q = ap (list_all p) (next_value xs i v lt e) ∙ all_more p (map datum (take i xs)) (datum v) h q
-
-pub line_more : (null : List ℕ) (xs : List Value) (i : ℕ) (v : Value) (done : List (List ℕ)) → i < length xs → v ≡ get_or xs i v → done ≡ line_of null (map datum (take i xs)) → done ++ field_of null (datum v) ∷ [] ≡ line_of null (map datum (take (i + 1) xs))
-line_more null xs i v done lt e h =
-    ap (λ (l : List (List ℕ)). l ++ field_of null (datum v) ∷ []) h ∙ sym (map-append (field_of null) (map datum (take i xs)) (datum v ∷ [])) ∙ sym (ap (line_of null) (next_value xs i v lt e))
 
 -- a value that would be read as NULL
 pub any_here : (p : Datum → Bool) (xs : List Value) (i : ℕ) (v : Value) → i < length xs → v ≡ get_or xs i v → p (datum v) ≡ true → list_any p (map datum xs) ≡ true

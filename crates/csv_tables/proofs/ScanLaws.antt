@@ -12,17 +12,17 @@ use Rattle.med_value.specs.Order.{compares_true}
 use Rattle.med_value.specs.declared.order.Comparison.TheVariants as comparisons
 use Rattle.med_value.specs.declared.value.ColType.{ColType}
 use Rattle.med_value.specs.declared.value.ColType.TheVariants as types
-use Rattle.fdw_api.specs.Scan.{Spec, RestrictionForm, TestForm, Compares, Missing, Present, value_of as operand_of, TableRow, checks, meets, meets_all, meets_exact}
+use Rattle.fdw_api.specs.Scan.{Spec, RestrictionForm, TestForm, Compares, Missing, Present, operand_value as operand_of, TableRow, checks, meets, meets_all, meets_exact}
 use Rattle.fdw_api.specs.declared.scan.Agree.{Agree}
 use Rattle.fdw_api.specs.declared.scan.Agree.TheVariants.{Ignored, Hint, Exact}
-use Rattle.csv_tables.specs.Cells.{cell_of, record_cells, value_of, integer_of, truth_of, without_spaces}
+use Rattle.csv_tables.specs.Cells.{cell_of, record_cells, field_value, integer_of, truth_of, without_spaces}
 use Rattle.csv_tables.specs.CsvRecords.{Record}
 use Rattle.csv_tables.specs.Shapes.{Shape}
 use Rattle.csv_tables.specs.Tables.{numbered, field_size}
 use Rattle.csv_tables.specs.Scans.{comes, may_equal, may_meet}
 
 -- a cell that is a text is its field
-typed_chars : (kind : ColType) (f s : List ℕ) → unwrap_or (value_of kind f) NoValue ≡ Chars s → f ≡ s
+typed_chars : (kind : ColType) (f s : List ℕ) → unwrap_or (field_value kind f) NoValue ≡ Chars s → f ≡ s
 typed_chars types.Text f s e = at (list_any (nat_eq 0) f) e
   where
     at : (b : Bool) → unwrap_or (if b then None else Some (Chars f)) NoValue ≡ Chars s → f ≡ s
@@ -44,7 +44,7 @@ typed_chars types.Bool (c ∷ cs) s e = at (truth_of (c ∷ cs)) e
 value_chars : (null : List ℕ) (kind : ColType) (f s : List ℕ) → unwrap_or (cell_of null kind f) NoValue ≡ Chars s → f ≡ s
 value_chars null kind f s e = at (is_utf8 f) (bytes_eq f null) e
   where
-    at : (u b : Bool) → unwrap_or (if u then (if b then Some NoValue else value_of kind f) else None) NoValue ≡ Chars s → f ≡ s
+    at : (u b : Bool) → unwrap_or (if u then (if b then Some NoValue else field_value kind f) else None) NoValue ≡ Chars s → f ≡ s
     at false b h = absurd cc
     at true true h = absurd cc
     at true false h = typed_chars kind f s h

@@ -1,41 +1,15 @@
 -- A writer of records, line by line.
-use Rattle.std.proofs.Common.{◌≡◌, ◌≢◌, ℕ, ◌+◌, ◌<◌, ◌≤◌, zero, suc, false, List, [], ◌∷◌, ◌++◌, length, take, drop, Option, Some, None, Vec, Global, refl, ap, sym, ◌∙◌, arith}
-use Rattle.std.specs.Io.KnownBytes.{Appends, Keeps}
+use Rattle.std.proofs.Common.{◌≡◌, ℕ, ◌+◌, ◌<◌, ◌≤◌, zero, suc, List, [], ◌∷◌, ◌++◌, length, take, drop, Option, Some, Vec, Global, refl, ap, sym, ◌∙◌, arith}
+use Rattle.std.specs.Io.KnownBytes.{Keeps}
 use Rattle.std.proofs.lemmas.List.{append_assoc, take_all}
-use Rattle.csv.specs.Writing.{default_writer, row_text, text_written, fields_written, has_written, writer_setup}
+use Rattle.csv.specs.Writing.{default_writer, row_text, text_written}
 use Rattle.csv.specs.declared.writer.Writer.{Writer}
-use Rattle.csv.specs.declared.writer.WriterBuilder.{WriterBuilder}
-use Rattle.csv.specs.declared.writer.QuoteStyle.TheVariants as style
 use Rattle.csv_tables.specs.declared.table.Rows.{Rows}
 use Rattle.csv_tables.specs.CsvRecords.{Record, csv_text}
 use Rattle.csv_tables.specs.Tables.{record_at, records_of}
 use Rattle.csv_tables.specs.Rewriting.{HasWritten}
 use Rattle.csv_tables.proofs.Flat.{cut_drop, cut_length}
 use Rattle.csv_tables.specs.Held.{held_of}
-
-appended : (o : Option (List ℕ)) (text more : List ℕ) → Appends (Some text) o more → o ≡ Some (text ++ more)
-appended None text more e = absurd e
-appended (Some xs) text more e = ap (λ (l : List ℕ). Some l) e
-
-known_text : (o p : Option (List ℕ)) (b : WriterBuilder) (text : List ℕ) (fields : Record) → o ≡ Some text → b ≡ default_writer
-    → Appends o p (row_text b fields) → p ≡ Some (text ++ row_text default_writer fields)
-known_text o p b text fields eo eb a = appended p text (row_text default_writer fields) (rw (eo, eb) at a)
-
-not_numeric : (b : WriterBuilder) → b ≡ default_writer → b.style ≢ style.NonNumeric
-not_numeric b e h = absurd (let q : style.Necessary ≡ style.NonNumeric = sym (ap (λ (w : WriterBuilder). w.style) e) ∙ h in cc)
-
--- a writer has written a record more
-pub writes_more : (text : List ℕ) (old new : Writer (Vec ℕ Global)) (fields : Record) → HasWritten text old
-    → (fields_written old ≡ 0 → has_written old ≡ false → (writer_setup old).style ≢ style.NonNumeric
-    → Appends (text_written (λ (v : Vec ℕ Global). Some v.items) old) (text_written (λ (v : Vec ℕ Global). Some v.items) new) (row_text (writer_setup old) fields))
-    → fields_written new ≡ 0 → has_written new ≡ false → writer_setup new ≡ writer_setup old
-    → HasWritten (text ++ row_text default_writer fields) new
-writes_more text old new fields was bytes ended clean setup = record {
-  fields = ended;
-  wrote = clean;
-  setup = setup ∙ was.setup;
-  text_is = known_text _ _ (writer_setup old) text fields was.text_is was.setup (bytes was.fields was.wrote (not_numeric (writer_setup old) was.setup));
-}
 
 pub writes_as : (xs ys : List ℕ) (w : Writer (Vec ℕ Global)) → HasWritten xs w → xs ≡ ys → HasWritten ys w
 writes_as xs ys w h e = rw e at h

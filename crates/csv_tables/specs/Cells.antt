@@ -49,16 +49,16 @@ truth_of text = if is_among true_words text then Some true else (if is_among fal
 
 -- a text that is not the null text, in a column of this type: no value where it is not of the type. A text has no U+0000; an empty
 -- field is NULL in columns of integers and truth values
-abbrev pub value_of : ColType → List ℕ → Option Datum
-value_of types.Text text = if list_any (nat_eq 0) text then None else Some (Chars text)
-value_of types.Int [] = Some NoValue
-value_of types.Int (c ∷ cs) = option_map Whole (integer_of (without_spaces (c ∷ cs)))
-value_of types.Bool [] = Some NoValue
-value_of types.Bool (c ∷ cs) = option_map Logic (truth_of (c ∷ cs))
+abbrev pub field_value : ColType → List ℕ → Option Datum
+field_value types.Text text = if list_any (nat_eq 0) text then None else Some (Chars text)
+field_value types.Int [] = Some NoValue
+field_value types.Int (c ∷ cs) = option_map Whole (integer_of (without_spaces (c ∷ cs)))
+field_value types.Bool [] = Some NoValue
+field_value types.Bool (c ∷ cs) = option_map Logic (truth_of (c ∷ cs))
 
 -- a field in a column of this type: NULL where it is the null text; nothing where it is no UTF-8
 abbrev pub cell_of : List ℕ → ColType → List ℕ → Option Datum
-cell_of null kind field = if is_utf8 field then (if bytes_eq field null then Some NoValue else value_of kind field) else None
+cell_of null kind field = if is_utf8 field then (if bytes_eq field null then Some NoValue else field_value kind field) else None
 
 -- each field of a record is of its column's type
 abbrev pub is_readable : List ℕ → List ColType → List (List ℕ) → Bool

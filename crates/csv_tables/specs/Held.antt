@@ -1,6 +1,5 @@
 -- Fields that are held in one text as they stand in a blob: each with one byte behind it, which ends it.
 use Rattle.std.specs.Prelude.{◌+◌, ◌-◌, ℕ, Bool, if◌then◌else◌, List, [], ◌∷◌, ◌++◌, length, map, take}
-use Rattle.std.specs.List.{flat_map}
 use Rattle.csv.specs.Machine.{line_feed}
 use Rattle.csv.specs.Records.{Row, fields_of}
 use Rattle.csv.specs.Writing.{comma, default_writer, needs_byte}
@@ -23,10 +22,6 @@ abbrev pub ended : Record → Record
 ended [] = []
 ended (f ∷ []) = (f ++ line_feed ∷ []) ∷ []
 ended (f ∷ g ∷ fs) = (f ++ comma ∷ []) ∷ ended (g ∷ fs)
-
--- a record as it stands in such a text, and as it stands in a blob where no field needs quotes
-abbrev pub line_text : Record → List ℕ
-line_text fields = flat_map (λ f. f) (ended fields)
 
 -- how many bytes of a text the writer sets apart
 abbrev pub special : ℕ → ℕ

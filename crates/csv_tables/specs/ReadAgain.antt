@@ -8,7 +8,7 @@ use Rattle.fdw_api.specs.Kinds.{Held, Entry, Change, Inserts, Updates, Deletes}
 use Rattle.fdw_api.specs.Writes.{row_of_change_fits, rows_after}
 use Rattle.csv_tables.specs.Cells.{is_readable, line_of}
 use Rattle.csv_tables.specs.CsvRecords.{Record, is_whole, is_header, heading}
-use Rattle.csv_tables.specs.Shapes.{Shape, causes_behind, records_in, rows_text}
+use Rattle.csv_tables.specs.Shapes.{Shape, causes_behind, records_in}
 use Rattle.csv_tables.specs.Tables.{numbered}
 use Rattle.csv_tables.specs.Rewriting.{is_storable}
 
@@ -62,10 +62,6 @@ pub record IsKept (shape : Shape) (header records : List Record) (changes : List
 -- the header that an image has where this entry stood before it
 abbrev pub header_under : Shape → Option Entry → List Record
 header_under shape entry = heading shape.header shape.names (records_in entry)
-
--- the bytes of the blob that is written of them
-abbrev pub text_left : Shape → List Record → List Record → List Change → List ℕ
-text_left shape header records changes = rows_text header (rows_left shape records changes)
 
 -- the records in which the rows after them stand
 abbrev pub records_left : Shape → List Record → List Change → List Record

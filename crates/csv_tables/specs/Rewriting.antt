@@ -13,9 +13,9 @@ use Rattle.fdw_api.specs.Scan.{TableRow}
 use Rattle.fdw_api.specs.Kinds.{Held, Change}
 use Rattle.fdw_api.specs.Writes.{rows_after}
 use Rattle.csv_tables.specs.declared.table.CsvTable.{CsvTable}
-use Rattle.staged_changes.specs.declared.fates.Fate.{Fate}
-use Rattle.staged_changes.specs.declared.fates.Fate.TheVariants.{Keep, Change as ChangeTo, Gone}
-use Rattle.staged_changes.specs.Weaving as weaving
+use Rattle.wrapper_parts.specs.declared.fates.Fate.{Fate}
+use Rattle.wrapper_parts.specs.declared.fates.Fate.TheVariants.{Keep, Change as ChangeTo, Gone}
+use Rattle.wrapper_parts.specs.Weaving as weaving
 use Rattle.csv_tables.specs.declared.written.Gathered.{Gathered}
 use Rattle.csv_tables.specs.declared.written.Written.{Written}
 use Rattle.csv_tables.specs.Cells.{line_of}

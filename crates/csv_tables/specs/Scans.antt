@@ -4,7 +4,7 @@ use Rattle.med_value.specs.Datum.{Datum, NoValue, Whole, Chars, Logic, Tuple}
 use Rattle.med_value.specs.declared.order.Comparison.TheVariants as comparisons
 use Rattle.med_value.specs.declared.value.ColType.{ColType}
 use Rattle.med_value.specs.declared.value.ColType.TheVariants as types
-use Rattle.fdw_api.specs.Scan.{RestrictionForm, TestForm, Compares, Missing, Present, value_of as operand_of, meets}
+use Rattle.fdw_api.specs.Scan.{RestrictionForm, TestForm, Compares, Missing, Present, operand_value as operand_of, meets}
 use Rattle.fdw_api.specs.declared.scan.Agree.{Agree}
 use Rattle.fdw_api.specs.declared.scan.Agree.TheVariants.{Ignored, Hint, Exact}
 use Rattle.csv_tables.specs.CsvRecords.{Record}

@@ -1,5 +1,5 @@
 //! The records of a blob, checked as they are read.
-ghost use Rattle.std.specs.Prelude.{◌≡◌, ◌++◌, ◌∷◌, [], ◌≤◌, ◌<◌, ℕ, List, map, length, true, false, not, ◌&&◌, is_some, IfOk, IfErr, OnOk, OnErr};
+ghost use Rattle.std.specs.Prelude.{◌≡◌, ◌++◌, ◌∷◌, [], ◌<◌, ℕ, List, map, length, true, false, not, ◌&&◌, is_some, IfOk, IfErr, OnOk, OnErr};
 ghost use Rattle.std.specs.List.{list_all};
 ghost use Rattle.std.specs.Str.{is_utf8};
 ghost use Rattle.std.specs.String.{string_bytes};
@@ -8,7 +8,7 @@ ghost use Rattle.csv.specs.Records.{fields_of, partial_of};
 ghost use Rattle.csv_tables.specs.Cells.{is_readable};
 ghost use Rattle.csv_tables.specs.CsvRecords.{Record, csv_records, is_whole, heading};
 ghost use Rattle.csv_tables.specs.Shapes.{content_causes};
-ghost use Rattle.csv_tables.specs.Held.{held_of, end_of, ended};
+ghost use Rattle.csv_tables.specs.Held.{end_of, ended};
 ghost use Rattle.csv_tables.specs.Flat.{header_in};
 ghost use Rattle.csv_tables.specs.Tables.{shape_is, records_of};
 ghost use Rattle.csv_tables.specs.Content.{HasRead, ReadsOn, TellsCause, IsDraft, IsContent, records_so_far};

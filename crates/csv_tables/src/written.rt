@@ -10,7 +10,7 @@ ghost use Rattle.med_value.specs.declared.cause.Cause.TheVariants.{NotInState};
 ghost use Rattle.med_value.specs.Limits.{row_limit};
 ghost use Rattle.fdw_api.specs.Scan.{row_fits};
 ghost use Rattle.fdw_api.specs.Writes.{inserted, row_of_change_fits};
-ghost use Rattle.staged_changes.specs.Staged.{change_is};
+ghost use Rattle.wrapper_parts.specs.Staged.{change_is};
 ghost use Rattle.csv_tables.specs.Cells.{line_of, record_cells, reads_as_null};
 ghost use Rattle.csv_tables.specs.CsvRecords.{Record, csv_text, is_whole};
 ghost use Rattle.csv_tables.specs.Shapes.{read_row, unless, hides_value, causes_behind};
@@ -29,8 +29,8 @@ use csv::{ByteRecord, Writer};
 use fdw_api::interface::Fault;
 use med_value::limits::{BYTE_LIMIT, ROW_LIMIT};
 use med_value::{Cause, ColType, NoMemory, Row};
-use staged_changes::{Fate, RowChange, keep_all, set_fate};
 use std::alloc::Global;
+use wrapper_parts::{Fate, RowChange, keep_all, set_fate};
 
 /// A sorted write: what it makes of each old record, and its new ones.
 #[derive(Drop)]

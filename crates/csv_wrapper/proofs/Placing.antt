@@ -26,9 +26,8 @@ use Rattle.csv_tables.specs.CsvRecords.{Record, csv_records, csv_text, heading, 
 use Rattle.csv_tables.specs.Shapes.{Shape, shape_of, read_row, unless, content_causes, csv_image, records_in, all_whole, all_readable, causes_behind, hides_value, rows_text}
 use Rattle.csv_tables.specs.Content.{IsContent, TellsCause}
 use Rattle.csv_tables.specs.Flat.{header_in}
-use Rattle.csv_tables.specs.Tables.{shape_is, records_of, numbered}
+use Rattle.csv_tables.specs.Tables.{shape_is, records_of, numbered, cells_at, fields_at}
 use Rattle.csv_tables.specs.Rewriting.{Rewrites as Remade, rows_in}
-use Rattle.csv_tables.specs.Tables.{cells_at, fields_at}
 use Rattle.csv_tables.specs.Scans.{comes}
 use Rattle.csv_tables.proofs.Applying.{origins}
 use Rattle.csv_tables.proofs.Placing.{row_there, rows_count}
@@ -39,8 +38,8 @@ use Rattle.place_wrapper.specs.Forms.{GivesAt, HasAt, ReadsAs, RefusesContent, R
 use Rattle.csv_wrapper.specs.CsvKind.{csv_refusals, unless_of_run, three_of_run}
 use Rattle.csv_wrapper.specs.Bound.{bound_by}
 use Rattle.csv_wrapper.specs.Places.{csv_form, takes}
-use Rattle.place_index.specs.Places.{equals}
-use Rattle.place_index.specs.Scans.{SoughtForm, sought, sought_of, or_else, has_sought}
+use Rattle.wrapper_parts.specs.Places.{equals}
+use Rattle.wrapper_parts.specs.Scans.{SoughtForm, sought, sought_of, or_else, has_sought}
 use Rattle.csv_wrapper.specs.declared.places.CsvPlaces.{CsvPlaces}
 
 both : (a b : Bool) → (a && b) ≡ true → (a ≡ true) × (b ≡ true)

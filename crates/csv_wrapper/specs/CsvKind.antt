@@ -13,7 +13,7 @@ use Rattle.med_value.specs.Limits.{row_limit, byte_limit}
 use Rattle.fdw_api.specs.Scan.{TableRow, row_fits, has_kind, is_clean}
 use Rattle.fdw_api.specs.Kinds.{Kind, OptionForm, Entry, Bytes, Stored, Change, Refusals, all_fit, as_they_come, is_of_run}
 use Rattle.fdw_api.specs.Writes.{rows_after}
-use Rattle.csv_tables.specs.Cells.{cell_of, record_cells, line_of, value_of, integer_of, truth_of, without_spaces}
+use Rattle.csv_tables.specs.Cells.{cell_of, record_cells, line_of, field_value, integer_of, truth_of, without_spaces}
 use Rattle.csv_tables.specs.CsvRecords.{Record, csv_records, body, heading}
 use Rattle.csv_tables.specs.Shapes.{Shape, shape_of, read_row, unless, csv_reading, records_in, image_bytes, csv_image, hides_value, causes_behind}
 
@@ -51,7 +51,7 @@ csv_refusals shape = record {
 
 -- a value that a field means is of its column's type, without U+0000
 pub value_fits : (kind : ColType) (text : List ℕ)
-    → (has_kind kind (unwrap_or (value_of kind text) NoValue) && is_clean (unwrap_or (value_of kind text) NoValue)) ≡ true
+    → (has_kind kind (unwrap_or (field_value kind text) NoValue) && is_clean (unwrap_or (field_value kind text) NoValue)) ≡ true
 value_fits types.Text text = clean (list_any (nat_eq 0) text) refl
   where
     clean : (b : Bool) → list_any (nat_eq 0) text ≡ b
@@ -76,7 +76,7 @@ value_fits types.Bool (c ∷ cs) = logic (truth_of (c ∷ cs))
 
 pub cell_fits : (null : List ℕ) (kind : ColType) (field : List ℕ)
     → (has_kind kind (unwrap_or (cell_of null kind field) NoValue) && is_clean (unwrap_or (cell_of null kind field) NoValue)) ≡ true
-cell_fits null kind field = by (is_utf8 field) (bytes_eq field null) (value_of kind field) (value_fits kind field)
+cell_fits null kind field = by (is_utf8 field) (bytes_eq field null) (field_value kind field) (value_fits kind field)
   where
     by : (u b : Bool) (o : Option Datum) → (has_kind kind (unwrap_or o NoValue) && is_clean (unwrap_or o NoValue)) ≡ true
         → (has_kind kind (unwrap_or (if u then (if b then Some NoValue else o) else None) NoValue)

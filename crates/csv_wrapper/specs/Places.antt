@@ -17,8 +17,8 @@ use Rattle.csv_tables.specs.Rewriting.{rows_in}
 use Rattle.csv_tables.specs.Scans.{comes, answer_by}
 use Rattle.csv_tables.proofs.ScanLaws.{taken_meets, rows_sound}
 use Rattle.csv_tables.proofs.Headers.{header_once, header_of_entry}
-use Rattle.place_index.specs.Scans.{SoughtForm, sought, has_sought}
-use Rattle.place_index.proofs.Taking.{takes_sound}
+use Rattle.wrapper_parts.specs.Scans.{SoughtForm, sought, has_sought}
+use Rattle.wrapper_parts.proofs.Taking.{takes_sound}
 use Rattle.place_wrapper.specs.Forms.{Form, IsNumbered}
 use Rattle.place_wrapper.proofs.Causes.{only_cause}
 use Rattle.csv_wrapper.specs.CsvKind.{csv_kind, record_fits}

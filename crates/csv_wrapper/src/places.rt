@@ -5,8 +5,8 @@ ghost use Rattle.fdw_api.specs.Scan.{restriction_form, spec_of, shown_cells};
 ghost use Rattle.csv_tables.specs.CsvRecords.{Record};
 ghost use Rattle.csv_tables.specs.Scans.{comes};
 ghost use Rattle.csv_tables.specs.Tables.{cells_at, fields_at};
-ghost use Rattle.place_index.specs.Places.{equals};
-ghost use Rattle.place_index.specs.Scans.{SoughtForm, form_of, sought, has_sought};
+ghost use Rattle.wrapper_parts.specs.Places.{equals};
+ghost use Rattle.wrapper_parts.specs.Scans.{SoughtForm, form_of, sought, has_sought};
 
 use csv_tables::content::{Content, read_content};
 use csv_tables::layout::Layout;
@@ -16,10 +16,9 @@ use csv_tables::written::{Written, apply_changes};
 use fdw_api::interface::{Fault, TableOption};
 use fdw_api::scan::{Agree, Restriction, ScanSpec};
 use med_value::{ColumnDef, Comparison, NoMemory, Row, Value};
-use place_index::{Sought, value_at};
 use place_wrapper::PlacedTable;
-use staged_changes::RowChange;
 use std::alloc::Global;
+use wrapper_parts::{RowChange, Sought, value_at};
 
 /// A CSV table.
 #[derive(Drop)]

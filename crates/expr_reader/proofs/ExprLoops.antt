@@ -1,30 +1,29 @@
 -- The loops of the parser.
 use Rattle.std.proofs.Common.{◌≡◌, ℕ, zero, suc, ◌≤◌, ◌<◌, Bool, true, false, cond, List, [], ◌∷◌, ◌++◌, length, refl, sym, ◌∙◌, ap, subst, arith, max, length-append}
-use Rattle.std.specs.Prelude.{nat_le, Result, Ok, Err, Option, Some, None}
+use Rattle.std.specs.Prelude.{nat_le, Result, Ok, Err, Option, Some, None, option_map, ◌-◌}
 use Rattle.med_value.specs.declared.operators.Operation.{Operation}
 use Rattle.med_value.specs.declared.operators.Operation.TheVariants.{Subtract}
 use Rattle.med_syntax.specs.declared.expr.Joint.{Joint}
 use Rattle.med_syntax.specs.declared.expr.Joint.TheVariants.{Or, And}
 use Rattle.med_syntax.specs.Terminal.{Terminal}
 use Rattle.med_syntax.specs.Terminal as t
-use Rattle.expr_grammar.specs.declared.refusal.Refusal.{Refusal}
-use Rattle.expr_grammar.specs.declared.refusal.Refusal.TheVariants.{TooHigh}
+use Rattle.med_syntax.specs.declared.refusal.Refusal.{Refusal}
+use Rattle.med_syntax.specs.declared.refusal.Refusal.TheVariants.{TooHigh}
 use Rattle.med_syntax.specs.ExprTree.{ExprTree, ExprTrees, binary, chain, none, more, height, highest, level, spelling}
-use Rattle.expr_grammar.specs.ExprReading.{Read, Reads, Parser, ◌>>=◌, within, Below, is_comma, left_more, left_of, others_after, chained, primary_of, after_minus, signed_of, negated_of, below}
-use Rattle.expr_grammar.specs.declared.symbols.Separator.{Separator}
-use Rattle.expr_grammar.specs.declared.symbols.Separator.TheVariants.{Between, Comma}
-use Rattle.expr_grammar.specs.declared.symbols.Level.{Level}
-use Rattle.expr_grammar.specs.declared.symbols.Level.TheVariants.{Sum, Product}
-use Rattle.expr_grammar.specs.ExprSteps.{is_mark, behind_of, behind_minus_of, op_of, operator_of, item_of, joined_of, operand_of}
+use Rattle.med_syntax.specs.ExprReading.{Read, Reads, Parser, ◌>>=◌, within, Below, is_comma, left_more, left_of, others_after, chained, primary_of, after_minus, signed_of, negated_of, below}
+use Rattle.med_syntax.specs.declared.symbols.Separator.{Separator}
+use Rattle.med_syntax.specs.declared.symbols.Separator.TheVariants.{Between, Comma}
+use Rattle.med_syntax.specs.declared.symbols.Level.{Level}
+use Rattle.med_syntax.specs.declared.symbols.Level.TheVariants.{Sum, Product}
+use Rattle.med_syntax.specs.ExprSteps.{is_mark, behind_of, behind_minus_of, op_of, operator_of, item_of, joined_of, operand_of}
 use Rattle.med_syntax.specs.ExprView.{expr_tree, expr_trees}
 use Rattle.med_syntax.specs.declared.expr.Expr.{Expr}
-use Rattle.std.specs.Prelude.{option_map, ◌-◌}
 use Rattle.expr_reader.specs.ReaderAnswers.{Answers, AnswersAll}
 use Rattle.expr_reader.specs.declared.found.Items.{Items}
-use Rattle.expr_grammar.specs.declared.refusal.ReadFault.{ReadFault}
-use Rattle.expr_grammar.specs.declared.refusal.ReadFault.TheVariants as errors
+use Rattle.med_syntax.specs.declared.refusal.ReadFault.{ReadFault}
+use Rattle.med_syntax.specs.declared.refusal.ReadFault.TheVariants as errors
 use Rattle.expr_reader.specs.declared.found.FoundExpr as was
-use Rattle.expr_grammar.proofs.ExprSound.{FoundExpr, FoundAll, sounds, ok_same, is_comma_true, others_sound, chain_sound, negated_sound, product_sound, signed_sound}
+use Rattle.med_syntax.proofs.ExprSound.{FoundExpr, FoundAll, sounds, ok_same, is_comma_true, others_sound, chain_sound, negated_sound, product_sound, signed_sound}
 
 -- ---- what is left is no longer
 
@@ -72,10 +71,6 @@ pub record ChainLoop (level : Level) (room : ℕ) (tokens : List Terminal) (e : 
   pub same : left_of (op_of level) (operand_of level (below (room - 1)) room) room tokens ≡ left_more (op_of level) (operand_of level (below (room - 1)) room) room k e rest
   pub is_height : h ≡ height e
   pub low : h ≤ room
-
-pub chain_start : (level : Level) (room : ℕ) (tokens : List Terminal) (e : ExprTree) (h : ℕ) (rest : List Terminal) → operand_of level (below (room - 1)) room tokens ≡ Ok (e, rest) → h ≡ height e → h ≤ room → ChainLoop level room tokens e h rest
-unfolding left_of
-chain_start level room tokens e h rest read is low = record { k = length rest; enough = omega arith; same = rw read refl; is_height = is; low = low }
 
 chain_unfolds : (level : Level) (room k : ℕ) (e : ExprTree) (ts : List Terminal) (op : Operation) (after : List Terminal) (item : Parser) → operator_of level ts ≡ Some (op, after) →
     left_more (op_of level) item room (suc k) e ts ≡ (item after >>= λ x. within room (binary op e x.0) x.1 >>= λ y. left_more (op_of level) item room k y.0 y.1)
@@ -177,13 +172,6 @@ pub record OthersLoop (mark : Separator) (room : ℕ) (tokens : List Terminal) (
   pub same : others_after (is_mark mark) (item_of mark (below (room - 1)) room) (length tokens) tokens ≡ after_these es (others_after (is_mark mark) (item_of mark (below (room - 1)) room) k rest)
   pub is_highest : hi ≡ highest es
   pub low : hi ≤ room
-
-whole_again : (read : Reads) → read ≡ after_these none read
-whole_again (Ok x) = refl
-whole_again (Err e) = refl
-
-pub others_start : (mark : Separator) (room : ℕ) (tokens : List Terminal) → OthersLoop mark room tokens none 0 tokens
-others_start mark room tokens = record { k = length tokens; enough = omega arith; same = whole_again (others_after (is_mark mark) (item_of mark (below (room - 1)) room) (length tokens) tokens); is_highest = refl; low = omega arith }
 
 one_more : (es : ExprTrees) (e : ExprTree) (read : Reads) → after_these es (read >>= λ y. Ok (more e y.0, y.1)) ≡ after_these (ahead es (more e none)) read
 one_more es e (Ok x) = rw (ahead_ahead es e x.0) refl

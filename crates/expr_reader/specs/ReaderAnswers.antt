@@ -1,14 +1,14 @@
 -- What a function that reads expressions returns.
 use Rattle.std.specs.Prelude.{◌≡◌, ℕ, ◌≤◌, Result, Ok, Err}
-use Rattle.expr_grammar.specs.declared.refusal.ReadFault.{ReadFault}
-use Rattle.expr_grammar.specs.declared.refusal.ReadFault.TheVariants as faults
+use Rattle.med_syntax.specs.declared.refusal.ReadFault.{ReadFault}
+use Rattle.med_syntax.specs.declared.refusal.ReadFault.TheVariants as faults
 use Rattle.expr_reader.specs.declared.found.Boxed.{Boxed}
 use Rattle.expr_reader.specs.declared.found.FoundExpr.{FoundExpr}
 use Rattle.expr_reader.specs.declared.found.Items.{Items}
 use Rattle.med_syntax.specs.ExprTree.{height, highest}
-use Rattle.expr_grammar.specs.ExprReading.{Read, Reads}
+use Rattle.med_syntax.specs.ExprReading.{Read, Reads}
 use Rattle.med_syntax.specs.ExprView.{expr_tree, expr_trees}
-use Rattle.expr_grammar.specs.SymbolView.{terminals_of}
+use Rattle.med_syntax.specs.SymbolView.{terminals_of}
 
 abbrev pub Answers : ℕ → Result FoundExpr ReadFault → Read → Type 0
 Answers room (Ok f) read =

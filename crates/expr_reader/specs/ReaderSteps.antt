@@ -1,9 +1,9 @@
 -- What one function of the reader reads.
 use Rattle.std.specs.Prelude.{ℕ, List, length}
 use Rattle.med_syntax.specs.Terminal.{Terminal}
-use Rattle.expr_grammar.specs.declared.symbols.Separator.{Separator}
-use Rattle.expr_grammar.specs.ExprReading.{Parser, Reads, Below, ◌>>=◌, closed, others_after}
-use Rattle.expr_grammar.specs.ExprSteps.{is_mark, item_of}
+use Rattle.med_syntax.specs.declared.symbols.Separator.{Separator}
+use Rattle.med_syntax.specs.ExprReading.{Parser, Reads, Below, ◌>>=◌, closed, others_after}
+use Rattle.med_syntax.specs.ExprSteps.{is_mark, item_of}
 
 -- behind (
 abbrev pub parens_of : Below → Parser

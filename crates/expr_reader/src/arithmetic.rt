@@ -2,18 +2,18 @@
 
 ghost use Rattle.std.specs.Prelude.{◌≡◌, ◌≤◌, ◌<◌, ◌-◌};
 ghost use Rattle.med_syntax.specs.ExprTree.{binary, height as spec_height};
-ghost use Rattle.expr_grammar.specs.ExprReading as reading;
+ghost use Rattle.med_syntax.specs.ExprReading as reading;
 ghost use Rattle.med_syntax.specs.ExprView.{expr_tree};
-ghost use Rattle.expr_grammar.specs.SymbolView.{terminals_of};
-ghost use Rattle.expr_grammar.specs.ExprSteps as steps;
+ghost use Rattle.med_syntax.specs.SymbolView.{terminals_of};
+ghost use Rattle.med_syntax.specs.ExprSteps as steps;
 ghost use Rattle.expr_reader.specs.ReaderAnswers.{Answers, AnswersBoxed};
 
 use crate::build::operation;
 use crate::found::{Boxed, FoundExpr, within};
 use crate::operands::signed_here;
-use expr_grammar::refusal::ReadFault;
-use expr_grammar::symbols::{Level, Symbols, operator};
 use med_syntax::Expr;
+use med_syntax::refusal::ReadFault;
+use med_syntax::symbols::{Level, Symbols, operator};
 use med_value::Operation;
 use std::alloc::Global;
 
@@ -56,7 +56,7 @@ fn operand(
 
 // The operands of the level with its operators between them, taken together from the left on.
 #[cycle(reader)]
-#[tactic(auto, unfolding(expr_grammar::specs::ExprReading::left_of))]
+#[tactic(auto, unfolding(med_syntax::specs::ExprReading::left_of))]
 pub(crate) fn chain(
     alloc: Global,
     level: Level,

@@ -2,18 +2,18 @@
 
 ghost use Rattle.std.specs.Prelude.{◌≡◌, ◌≤◌, ◌<◌, ◌-◌};
 ghost use Rattle.med_syntax.specs.ExprTree.{height as spec_height, highest as spec_highest};
-ghost use Rattle.expr_grammar.specs.ExprReading as reading;
+ghost use Rattle.med_syntax.specs.ExprReading as reading;
 ghost use Rattle.med_syntax.specs.ExprView.{expr_tree, expr_trees};
-ghost use Rattle.expr_grammar.specs.SymbolView.{terminals_of};
-ghost use Rattle.expr_grammar.specs.ExprSteps as steps;
+ghost use Rattle.med_syntax.specs.SymbolView.{terminals_of};
+ghost use Rattle.med_syntax.specs.ExprSteps as steps;
 ghost use Rattle.expr_reader.specs.ReaderSteps.{others_of};
 ghost use Rattle.expr_reader.specs.ReaderAnswers.{Answers, AnswersAll, AnswersBoxed};
 
 use crate::build::{chained, inverted, test};
 use crate::found::{Boxed, FoundExpr, Items, within};
 use crate::predicates::compared;
-use expr_grammar::refusal::{ReadFault, Refusal};
-use expr_grammar::symbols::{Separator, Symbol, Symbols, behind, onward, status};
+use med_syntax::refusal::{ReadFault, Refusal};
+use med_syntax::symbols::{Separator, Symbol, Symbols, behind, onward, status};
 use med_syntax::{Expr, Joint};
 use std::alloc::Global;
 
@@ -50,7 +50,7 @@ pub(crate) fn boxed_whole(
 
 /// Items and the joint between them, or one item.
 #[cycle(reader)]
-#[tactic(auto, unfolding(expr_grammar::specs::ExprReading::chain_of))]
+#[tactic(auto, unfolding(med_syntax::specs::ExprReading::chain_of))]
 fn joined(
     alloc: Global,
     joint: Joint,
@@ -100,7 +100,7 @@ fn chain_made(
 
 /// What a separator parts.
 #[cycle(reader)]
-#[tactic(auto, using(crate::proofs::ExprLoops::chained_many, crate::proofs::ExprLoops::whole_some, crate::proofs::ExprLoops::negated_some, crate::proofs::ExprLoops::signed_some, crate::proofs::ExprLoops::whole_none, crate::proofs::ExprLoops::negated_none, crate::proofs::ExprLoops::signed_none), unfolding(expr_grammar::specs::ExprReading::left_of, expr_grammar::specs::ExprReading::chain_of, expr_grammar::specs::ExprReading::range_of, expr_grammar::specs::ExprReading::compare_of, expr_grammar::specs::ExprReading::is_of))]
+#[tactic(auto, using(crate::proofs::ExprLoops::chained_many, crate::proofs::ExprLoops::whole_some, crate::proofs::ExprLoops::negated_some, crate::proofs::ExprLoops::signed_some, crate::proofs::ExprLoops::whole_none, crate::proofs::ExprLoops::negated_none, crate::proofs::ExprLoops::signed_none), unfolding(med_syntax::specs::ExprReading::left_of, med_syntax::specs::ExprReading::chain_of, med_syntax::specs::ExprReading::range_of, med_syntax::specs::ExprReading::compare_of, med_syntax::specs::ExprReading::is_of))]
 fn item(
     alloc: Global,
     separator: Separator,
@@ -185,7 +185,7 @@ fn inversion_here(
 
 // A comparison, perhaps IS what follows.
 #[cycle(reader)]
-#[tactic(auto, unfolding(expr_grammar::specs::ExprReading::is_of))]
+#[tactic(auto, unfolding(med_syntax::specs::ExprReading::is_of))]
 fn checked(alloc: Global, room: u32, symbols: Symbols<'_>) -> Result<FoundExpr<'_>, ReadFault>
     requires some { 1 ≤ room }
     requires few { room < 1000 }

@@ -2,14 +2,14 @@
 
 ghost use Rattle.std.specs.Prelude.{◌≡◌};
 ghost use Rattle.med_syntax.specs.ExprTree.{height as spec_height};
-ghost use Rattle.expr_grammar.specs.ExprReading as reading;
+ghost use Rattle.med_syntax.specs.ExprReading as reading;
 ghost use Rattle.med_syntax.specs.ExprView.{expr_tree};
-ghost use Rattle.expr_grammar.specs.SymbolView.{terminals_of};
+ghost use Rattle.med_syntax.specs.SymbolView.{terminals_of};
 ghost use Rattle.expr_reader.specs.ReaderAnswers.{Answers};
 
-use expr_grammar::refusal::{ReadFault, Refusal};
-use expr_grammar::symbols::Symbols;
 use med_syntax::Expr;
+use med_syntax::refusal::{ReadFault, Refusal};
+use med_syntax::symbols::Symbols;
 
 /// An expression, its height, and the symbols behind it.
 #[derive(Debug, Drop)]

@@ -1,5 +1,5 @@
 //! Reads terminal symbols as expressions, by recursive descent. Each function is proved to give what the list reader of the crate
-//! `expr_grammar` gives for the terminals of its symbols.
+//! `med_syntax` gives for the terminals of its symbols.
 #![tactic(auto)]
 
 mod arithmetic;

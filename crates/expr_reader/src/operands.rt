@@ -2,9 +2,9 @@
 
 ghost use Rattle.std.specs.Prelude.{◌≡◌, ◌≤◌, ◌<◌, ◌-◌};
 ghost use Rattle.med_syntax.specs.ExprTree.{height as spec_height, highest as spec_highest};
-ghost use Rattle.expr_grammar.specs.ExprReading as reading;
+ghost use Rattle.med_syntax.specs.ExprReading as reading;
 ghost use Rattle.med_syntax.specs.ExprView.{expr_tree, expr_trees};
-ghost use Rattle.expr_grammar.specs.SymbolView.{terminals_of};
+ghost use Rattle.med_syntax.specs.SymbolView.{terminals_of};
 ghost use Rattle.expr_reader.specs.ReaderSteps.{parens_of};
 ghost use Rattle.expr_reader.specs.ReaderAnswers.{Answers};
 
@@ -14,9 +14,9 @@ use crate::build::{
 };
 use crate::conditions::{boxed_whole, others};
 use crate::found::{FoundExpr, Items, leaf};
-use expr_grammar::refusal::{ReadFault, Refusal};
-use expr_grammar::symbols::{Separator, Symbol, Symbols, behind_minus};
 use med_syntax::Expr;
+use med_syntax::refusal::{ReadFault, Refusal};
+use med_syntax::symbols::{Separator, Symbol, Symbols, behind_minus};
 use med_value::Operation;
 use std::alloc::Global;
 

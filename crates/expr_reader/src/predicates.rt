@@ -2,24 +2,24 @@
 
 ghost use Rattle.std.specs.Prelude.{◌≡◌, ◌≤◌, ◌<◌, ◌-◌, max};
 ghost use Rattle.med_syntax.specs.ExprTree.{between as spec_between, compare, height as spec_height};
-ghost use Rattle.expr_grammar.specs.ExprReading as reading;
+ghost use Rattle.med_syntax.specs.ExprReading as reading;
 ghost use Rattle.med_syntax.specs.ExprView.{expr_tree};
-ghost use Rattle.expr_grammar.specs.SymbolView.{terminals_of};
+ghost use Rattle.med_syntax.specs.SymbolView.{terminals_of};
 ghost use Rattle.expr_reader.specs.ReaderAnswers.{Answers};
 
 use crate::arithmetic::{boxed_sum, chain};
 use crate::build::{between, comparison, likeness, membership};
 use crate::conditions::{boxed_whole, others};
 use crate::found::{Boxed, FoundExpr, within};
-use expr_grammar::refusal::{ReadFault, Refusal};
-use expr_grammar::symbols::{Level, Separator, Symbol, Symbols};
+use med_syntax::refusal::{ReadFault, Refusal};
+use med_syntax::symbols::{Level, Separator, Symbol, Symbols};
 use med_syntax::{Expr, Joint};
 use med_value::Comparison;
 use std::alloc::Global;
 
 // An operand of a comparison, perhaps compared with another.
 #[cycle(reader)]
-#[tactic(auto, unfolding(expr_grammar::specs::ExprReading::compare_of))]
+#[tactic(auto, unfolding(med_syntax::specs::ExprReading::compare_of))]
 pub(crate) fn compared(
     alloc: Global,
     room: u32,
@@ -67,7 +67,7 @@ fn comparison_made(
 
 // A sum, perhaps NOT, BETWEEN, IN or LIKE what follows.
 #[cycle(reader)]
-#[tactic(auto, unfolding(expr_grammar::specs::ExprReading::range_of))]
+#[tactic(auto, unfolding(med_syntax::specs::ExprReading::range_of))]
 fn ranged(alloc: Global, room: u32, symbols: Symbols<'_>) -> Result<FoundExpr<'_>, ReadFault>
     requires some { 1 ≤ room }
     requires few { room < 1000 }
@@ -97,7 +97,7 @@ fn ranged(alloc: Global, room: u32, symbols: Symbols<'_>) -> Result<FoundExpr<'_
 
 /// The value, perhaps NOT, BETWEEN, IN or LIKE what follows.
 #[cycle(reader)]
-#[tactic(auto, using(crate::proofs::ExprLoops::chained_many, crate::proofs::ExprLoops::whole_some, crate::proofs::ExprLoops::negated_some, crate::proofs::ExprLoops::signed_some, crate::proofs::ExprLoops::whole_none, crate::proofs::ExprLoops::negated_none, crate::proofs::ExprLoops::signed_none), unfolding(expr_grammar::specs::ExprReading::left_of, expr_grammar::specs::ExprReading::chain_of, expr_grammar::specs::ExprReading::range_of, expr_grammar::specs::ExprReading::compare_of, expr_grammar::specs::ExprReading::is_of))]
+#[tactic(auto, using(crate::proofs::ExprLoops::chained_many, crate::proofs::ExprLoops::whole_some, crate::proofs::ExprLoops::negated_some, crate::proofs::ExprLoops::signed_some, crate::proofs::ExprLoops::whole_none, crate::proofs::ExprLoops::negated_none, crate::proofs::ExprLoops::signed_none), unfolding(med_syntax::specs::ExprReading::left_of, med_syntax::specs::ExprReading::chain_of, med_syntax::specs::ExprReading::range_of, med_syntax::specs::ExprReading::compare_of, med_syntax::specs::ExprReading::is_of))]
 fn in_range(
     alloc: Global,
     room: u32,
@@ -148,7 +148,7 @@ fn in_range(
 
 /// The value between the two that follow.
 #[cycle(reader)]
-#[tactic(auto, using(crate::proofs::ExprLoops::chained_many, crate::proofs::ExprLoops::whole_some, crate::proofs::ExprLoops::negated_some, crate::proofs::ExprLoops::signed_some, crate::proofs::ExprLoops::whole_none, crate::proofs::ExprLoops::negated_none, crate::proofs::ExprLoops::signed_none), unfolding(expr_grammar::specs::ExprReading::left_of, expr_grammar::specs::ExprReading::chain_of, expr_grammar::specs::ExprReading::range_of, expr_grammar::specs::ExprReading::compare_of, expr_grammar::specs::ExprReading::is_of))]
+#[tactic(auto, using(crate::proofs::ExprLoops::chained_many, crate::proofs::ExprLoops::whole_some, crate::proofs::ExprLoops::negated_some, crate::proofs::ExprLoops::signed_some, crate::proofs::ExprLoops::whole_none, crate::proofs::ExprLoops::negated_none, crate::proofs::ExprLoops::signed_none), unfolding(med_syntax::specs::ExprReading::left_of, med_syntax::specs::ExprReading::chain_of, med_syntax::specs::ExprReading::range_of, med_syntax::specs::ExprReading::compare_of, med_syntax::specs::ExprReading::is_of))]
 fn in_bounds(
     alloc: Global,
     room: u32,

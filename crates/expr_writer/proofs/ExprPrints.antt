@@ -19,12 +19,12 @@ use Rattle.med_syntax.specs.declared.expr.Joint.{Joint}
 use Rattle.med_syntax.specs.declared.expr.Joint.TheVariants.{Or, And}
 use Rattle.med_value.specs.declared.operators.Status.{Status}
 use Rattle.med_value.specs.declared.operators.Status.TheVariants as statuses
-use Rattle.expr_grammar.specs.Shapes.{shapes}
+use Rattle.med_syntax.specs.Shapes.{shapes}
 use Rattle.med_syntax.specs.Words.{is_reserved}
-use Rattle.med_syntax.specs.Terminal.{Terminal, terminal_of, mark_terminal, plain_word, word_terminal, IsTerminal, AreTerminals}
+use Rattle.med_syntax.specs.Terminal.{Terminal, terminal_of, mark_terminal, word_terminal, IsTerminal, AreTerminals}
 use Rattle.med_syntax.specs.Terminal as t
 use Rattle.med_syntax.specs.ExprTree.{ExprTree, ExprTrees, num, negative, text, truth, null, column, call_all, call, paren, minus, binary, between, among, like, compare, tested, negation, chain, none, more, perhaps_not, status_terminal, spelling, parts_spelling, spellings}
-use Rattle.expr_grammar.specs.ExprGrammar.{HasExpr, in_range, are_in_range}
+use Rattle.med_syntax.specs.ExprGrammar.{HasExpr, in_range, are_in_range}
 use Rattle.expr_writer.specs.ExprPrinting.{binary_mark, compare_mark, shape_for, shapes_for, printed_expr, Wrote}
 
 -- ---- writing one after the other
@@ -53,10 +53,6 @@ then_if (Err e) a b c xs ys p q = tt
 
 pub more_if : {U E : Type 0} (r : Result U E) (a b c : List ℕ) (u : Terminal) (ys : List Terminal) → Wrote a b (u ∷ []) → IfOk r (λ v. Wrote b c ys) → IfOk r (λ v. Wrote a c (u ∷ ys))
 more_if r a b c u ys p q = then_if r a b c (u ∷ []) ys p q
-
-pub for_tree : {U E : Type 0} (r : Result U E) (a c : List ℕ) (e d : ExprTree) → e ≡ d → IfOk r (λ u. Wrote a c (spelling d)) → IfOk r (λ u. Wrote a c (spelling e))
-for_tree (Ok u) a c e d p q = subst (λ x. Wrote a c (spelling x)) (sym p) q
-for_tree (Err x) a c e d p q = tt
 
 -- each further one of a list
 pub wrote_next : (o a b c : List ℕ) (sep : Terminal) (e : ExprTree) (es all : ExprTrees) → a ++ behind_spaces (shapes_for (spellings sep (more e es))) ≡ o ++ behind_spaces (shapes_for (spellings sep all)) →

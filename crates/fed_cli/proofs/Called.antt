@@ -1,9 +1,9 @@
 -- What was written to a sink, and the calls where nothing was done.
 use Rattle.std.proofs.Common.{◌≡◌, Bool, ℕ, List, [], Option, Ok, Err, is_ok, refl, arith}
-use Rattle.fed_output.specs.Inlets.{Inlet}
-use Rattle.fed_output.specs.Outlets.{Outlet, FrontWritten}
-use Rattle.fed_output.specs.Known.{Known}
-use Rattle.fed_output.proofs.Known.{known_self}
+use Rattle.fed_stream.specs.Inlets.{Inlet}
+use Rattle.fed_stream.specs.Outlets.{Outlet, FrontWritten}
+use Rattle.fed_stream.specs.Known.{Known}
+use Rattle.fed_stream.proofs.Known.{known_self}
 use Rattle.fed_stream.specs.Calls.{ReadsStream, WritesStream}
 use Rattle.fed_stream.specs.Streams.{stream}
 use Rattle.fed_stream.specs.declared.stream.Ended.{Ended}

@@ -10,7 +10,7 @@ use Rattle.med_session.specs.declared.engine.Engine.{Engine}
 use Rattle.session_wire.specs.Lines.{lines_within}
 use Rattle.session_wire.specs.Engines.{EngineSteps, EngineEnds}
 use Rattle.session_wire.specs.Servers.{handler_of, is_closed, held_back, unread_of}
-use Rattle.session_wire.specs.Worlds.{Scene, scene_of, SceneSteps, SceneEnds}
+use Rattle.session_wire.specs.Worlds.{scene_of, SceneSteps, SceneEnds}
 use Rattle.session_wire.specs.declared.server.Server.{Server}
 use Rattle.fed_stream.specs.Streams.{Stream, stream}
 use Rattle.fed_stream.specs.Served.{Serves}
@@ -33,10 +33,6 @@ abbrev pub Law : {W : Type 0} → (W → BoxState) → Type 0
 Law {W} meaning = (old new : Engine W) (before : List ℕ) (left : Option (List ℕ)) (input output : Stream) (result : Result Ended StreamFault)
     → Serves (EngineSteps meaning) (EngineEnds meaning) old before new left input output result → (w : World) → Agrees (shown meaning old) w
     → (after : World) × Serves SceneSteps SceneEnds (scene_of meaning old w) before (scene_of meaning new after) left input output result × Agrees (shown meaning new) after
-
--- this world over these boxes
-abbrev over : List (Option BoxState) → World → Scene
-over boxes w = record { world = w; boxes = boxes }
 
 -- the engine is handed back: once more its sessions are closed, and then its boxes are these
 abbrev HandsBack : {W : Type 0} → (W → BoxState) → Engine W → List (Option W) → Type 0

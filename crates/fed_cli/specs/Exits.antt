@@ -10,8 +10,8 @@ use Rattle.fed_setup.specs.Setup.{Outside, BeginsNot, IsReadOf, list_asked}
 use Rattle.fed_stream.specs.Streams.{Stream, IsUntouched}
 use Rattle.fed_cli.specs.Told.{told_of, run_line}
 use Rattle.fed_setup.specs.Told.{Came}
-use Rattle.fed_output.specs.Outlets.{Outlet, FrontWritten}
-use Rattle.fed_output.specs.declared.source.GivenUp.{GivenUp}
+use Rattle.fed_stream.specs.Outlets.{Outlet, FrontWritten}
+use Rattle.fed_stream.specs.declared.source.GivenUp.{GivenUp}
 use Rattle.fed_words.specs.Told.{words_text}
 use Rattle.fed_words.specs.Words.{places_asked}
 use Rattle.fed_stream.specs.declared.stream.Ended.{Ended}

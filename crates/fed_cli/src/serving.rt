@@ -1,6 +1,6 @@
 //! An engine between a reader and a writer.
 ghost use Rattle.fed_cli.specs.Answered.{ServesWorld};
-ghost use Rattle.fed_output.specs.Known.{Known};
+ghost use Rattle.fed_stream.specs.Known.{Known};
 ghost use Rattle.fed_stream.specs.Calls.{ReadsStream, WritesStream};
 ghost use Rattle.fed_stream.specs.Streams.{stream};
 ghost use Rattle.med_exec.specs.Slots.{states};
@@ -10,8 +10,7 @@ ghost use Rattle.med_session.specs.World.{World};
 
 use crate::worlds::{fed_cursors_keep_their_tables, served_worlds_follow};
 use fdw_api::wishes::Wrapper2;
-use fed_output::{Sink, Source};
-use fed_stream::{Ended, StreamFault, serve_stream};
+use fed_stream::{Ended, Sink, Source, StreamFault, serve_stream};
 use med_session::{Engine, Sources};
 use session_wire::Server;
 use std::alloc::Global;

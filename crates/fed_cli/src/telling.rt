@@ -1,12 +1,12 @@
 //! What is told of the end of a run, and of words that ask no run.
-ghost use Rattle.std.specs.Prelude.{◌≡◌, Err, not};
+ghost use Rattle.std.specs.Prelude.{Err, not};
 ghost use Rattle.fed_cli.specs.Exits.{WritesRun, WritesIf, is_help};
 ghost use Rattle.fed_cli.specs.Told.{run_line};
-ghost use Rattle.fed_output.specs.Outlets.{FrontWritten};
+ghost use Rattle.fed_stream.specs.Outlets.{FrontWritten};
 ghost use Rattle.fed_words.specs.Told.{words_text};
 
-use fed_output::{GivenUp, Sink, write_front, write_line};
 use fed_setup::told::RunFault;
+use fed_stream::{GivenUp, Sink, write_front, write_line};
 use fed_words::words::WordsFault;
 use itoa::Buffer;
 

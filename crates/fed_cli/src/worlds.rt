@@ -1,7 +1,7 @@
 //! What a stream served over an engine is, in the direct meaning of SQL over worlds.
 ghost use Rattle.std.specs.Prelude.{◌≡◌, ◌++◌, ℕ, List, Option, Result};
-ghost use Rattle.cursor_runs.specs.Exchanges.{Exchange, Exchanged, texts_in, replies_in, texts_of, end_reply};
-ghost use Rattle.cursor_runs.specs.Runs.{KeepsCursors};
+ghost use Rattle.session_wire.specs.Exchanges.{Exchange, Exchanged, texts_in, replies_in, texts_of, end_reply};
+ghost use Rattle.session_wire.specs.Runs.{KeepsCursors};
 ghost use Rattle.med_session.specs.World.{World};
 ghost use Rattle.med_session.specs.Engine.{Agrees};
 ghost use Rattle.med_session.specs.Shows.{shown};
@@ -15,8 +15,8 @@ ghost use Rattle.fed_stream.specs.declared.stream.StreamFault.{StreamFault};
 ghost use Rattle.fed_stream.specs.Served.{Serves};
 ghost use Rattle.fed_stream.specs.Streams.{Stream};
 
-use cursor_runs::law::cursors_keep_their_tables;
 use fdw_api::wishes::Wrapper2;
+use session_wire::law::cursors_keep_their_tables;
 use session_wire::worlds::worlds_follow;
 
 /// The law of worlds: what `serve_stream` answers over an engine is, for each world that agrees with the

@@ -2,10 +2,10 @@
 use Rattle.std.proofs.Common.{◌≡◌, ℕ, List, Option, Some, None, option_map, Result, Ok, Err, Vec, refl, sym, subst}
 use Rattle.std.specs.Global.{Global}
 use Rattle.session_wire.specs.Worlds.{Scene}
-use Rattle.fed_replay.specs.Replays.{Replays}
-use Rattle.fed_replay.specs.Engines.{SceneAnswers, SceneCloses}
-use Rattle.fed_replay.specs.declared.script.ScriptFault.{ScriptFault}
-use Rattle.fed_replay.specs.declared.script.ScriptFault.TheVariants as scripts
+use Rattle.fed_setup.specs.Replays.{Replays}
+use Rattle.fed_setup.specs.Engines.{SceneAnswers, SceneCloses}
+use Rattle.fed_setup.specs.declared.script.ScriptFault.{ScriptFault}
+use Rattle.fed_setup.specs.declared.script.ScriptFault.TheVariants as scripts
 use Rattle.fed_setup.specs.Setup.{Outside, IsFirst, HasNoFirst, ReadsNot, IsReadOf, ReplaysInit, BeginsNot, list_asked}
 use Rattle.fed_setup.specs.Told.{Came, replay_told}
 use Rattle.fed_words.specs.Words.{places_asked}

@@ -23,19 +23,18 @@ use Rattle.blob_store.specs.Files.{folder_shelf}
 use Rattle.csv_wrapper.specs.CsvBoxes.{IsNewCsv}
 use Rattle.jsonl_wrapper.specs.Boxes.{IsNewJsonl}
 use Rattle.session_wire.specs.Worlds.{Scene}
-use Rattle.fed_replay.specs.Replays.{Replays}
-use Rattle.fed_replay.specs.Engines.{SceneAnswers, SceneCloses}
-use Rattle.fed_replay.specs.declared.script.ScriptFault.{ScriptFault}
-use Rattle.fed_replay.specs.declared.script.ScriptFault.TheVariants as scripts
+use Rattle.fed_setup.specs.Replays.{Replays}
+use Rattle.fed_setup.specs.Engines.{SceneAnswers, SceneCloses}
+use Rattle.fed_setup.specs.declared.script.ScriptFault.{ScriptFault}
+use Rattle.fed_setup.specs.declared.script.ScriptFault.TheVariants as scripts
 use Rattle.fed_setup.specs.Demo.{demo_list, setup_script}
-use Rattle.fed_setup.specs.Setup.{Outside, over, empty_scene, HasList, HasPlaces, SetsUp, IsNewAt, IsNewPlace, AddsPlace, AddsPlaces, AddsNoDemo, IsNotAdded, AreNotAdded, IsFirst, HasNoFirst, HasListAsked, IsSetUp, IsNotSetUp, SetUpFails, list_asked, list_label, labels_before, place_label}
+use Rattle.fed_setup.specs.Setup.{Outside, over, empty_scene, HasList, HasPlaces, SetsUp, IsNewAt, IsNewPlace, AddsPlace, AddsPlaces, IsNotAdded, AreNotAdded, IsFirst, HasNoFirst, HasListAsked, IsSetUp, IsNotSetUp, SetUpFails, list_asked, list_label, labels_before, place_label}
 use Rattle.sqlite_wrapper.specs.Kinds.{sqlite_kind}
-use Rattle.sqlite_databases.specs.Found.{Images}
+use Rattle.sqlite_writes.specs.Found.{Images}
 use Rattle.source_kinds.specs.Databases.{by_path, is_memory}
-use Rattle.fed_words.specs.Places.{Place, place_of, source_kind, is_honest_place}
+use Rattle.fed_words.specs.Places.{Place, source_kind, is_honest_place}
 use Rattle.fed_setup.specs.Told.{Came, added_of, setup_told}
 use Rattle.fed_words.specs.Words.{places_asked}
-use Rattle.fed_words.specs.declared.places.AskedPlace.{AskedPlace}
 use Rattle.fed_words.specs.declared.places.PlaceKind.{PlaceKind}
 use Rattle.fed_words.specs.declared.places.PlaceKind.TheVariants.{Csv, JsonLines, Sqlite}
 use Rattle.fed_words.specs.declared.words.AskedRun.{AskedRun}
@@ -149,10 +148,6 @@ place_takes outside Csv path s h csv jsonl sqlite = csv s (folder_shelf outside.
 place_takes outside JsonLines path s h csv jsonl sqlite = jsonl s (folder_shelf outside.files path 0) h
 place_takes outside Sqlite path s h csv jsonl sqlite = sqlite s (database_kind outside.honest (is_memory path) outside.databases path s h)
 
--- of several the first is added, and then the others
-pub adds_none : (outside : Outside) (e : Shown) (all : List Place) → all ≡ [] → AddsPlaces outside e all e
-adds_none outside e all is = record { world = λ w agrees. (w, subst (λ fs. HasPlaces outside (over e w) fs (over e w)) (sym is) refl, agrees) }
-
 pub adds_first : (outside : Outside) (old mid new : Shown) (f : Place) (all rest : List Place) → all ≡ f ∷ rest → AddsPlace outside old f mid → AddsPlaces outside mid rest new → AddsPlaces outside old all new
 adds_first outside old mid new f all rest is one more = record {
   world = λ w agrees.
@@ -165,21 +160,6 @@ pub adds_more : (outside : Outside) {T E : Type 0} (r : Result T E) (old mid new
     → OnOk r (AddsPlaces outside mid rest new) → OnOk r (AddsPlaces outside old all new)
 adds_more outside (Ok x) old mid new f all rest is one more = adds_first outside old mid new f all rest is one more
 adds_more outside (Err x) old mid new f all rest is one more = tt
-
--- or one is not
-pub fails_first : (labels : List Label) (f : Place) (all rest : List Place) (fault : RunFault) → all ≡ f ∷ rest → IsNotAdded labels f fault → AreNotAdded labels all fault
-fails_first labels f all rest fault is h = subst (λ fs. AreNotAdded labels fs fault) (sym is) (inl h)
-
-pub fails_later : (outside : Outside) (old mid : Shown) (f : Place) (all rest : List Place) (fault : RunFault) → all ≡ f ∷ rest → AddsPlace outside old f mid → AreNotAdded mid.labels rest fault
-    → AreNotAdded old.labels all fault
-fails_later outside old mid f all rest fault is one h =
-    subst (λ fs. AreNotAdded old.labels fs fault) (sym is) (inr (one.could, subst (λ ls. AreNotAdded ls rest fault) one.labels h))
-
-pub place_not_added : (labels : List Label) (asked : AskedPlace) (fault : AddFault) (told : RunFault) → told ≡ added_of asked.name fault
-    → AddCause labels asked.name.now fault → IsNotAdded labels (place_of asked) told
-place_not_added labels asked adding.NoMemory told e h = subst (λ f. IsNotAdded labels (place_of asked) f) (sym e) tt
-place_not_added labels asked adding.Taken told e h = subst (λ f. IsNotAdded labels (place_of asked) f) (sym e) (refl, h)
-place_not_added labels asked adding.TooMany told e h = subst (λ f. IsNotAdded labels (place_of asked) f) (sym e) (refl, h.0, h.1)
 
 -- ---- what the set-up came to
 
@@ -207,23 +187,7 @@ told_err name (Err scripts.NoMemory) told P e n f = subst (λ t. IfErr t P) (sym
 told_err name (Err scripts.NotText) told P e n f = subst (λ t. IfErr t P) (sym e) (f scripts.NotText refl (λ h. absurd cc))
 told_err name (Err (scripts.Line number cause)) told P e n f = subst (λ t. IfErr t P) (sym e) (f (scripts.Line number cause) refl (λ h. absurd cc))
 
--- ---- why the list is not added
-
-pub not_added : (old : Scene) (owner : List ℕ) (labels : List Label) (name : Bor (List ℕ)) (fault : AddFault) (told : RunFault) → told ≡ added_of name fault
-    → AddCause labels name.now fault → AddsNoDemo old owner labels name told
-not_added old owner labels name adding.NoMemory told e h = subst (λ f. AddsNoDemo old owner labels name f) (sym e) tt
-not_added old owner labels name adding.Taken told e h = subst (λ f. AddsNoDemo old owner labels name f) (sym e) (refl, h)
-not_added old owner labels name adding.TooMany told e h = subst (λ f. AddsNoDemo old owner labels name f) (sym e) (refl, h.1)
-
 -- ---- the list that is asked, in an engine that has no source
-
-pub no_list : (old : Scene) (o : Option (Bor (List ℕ))) → ((x : Bor (List ℕ)) → o ≡ Some x → ⊥) → HasListAsked old (option_map (λ s. s.now) o) old
-no_list old None none = refl
-no_list old (Some x) none = absurd (none x refl)
-
-pub no_label : (labels : List Label) (o : Option (Bor (List ℕ))) → labels ≡ [] → ((x : Bor (List ℕ)) → o ≡ Some x → ⊥) → labels ≡ labels_before (option_map (λ s. s.now) o)
-no_label labels None e none = e
-no_label labels (Some x) e none = absurd (none x refl)
 
 pub one_list : (old new : Scene) (o : Option (Bor (List ℕ))) (name : Bor (List ℕ)) → o ≡ Some name → HasList old name.now new → HasListAsked old (option_map (λ s. s.now) o) new
 one_list old new o name is has = subst (λ p. HasListAsked old (option_map (λ s. s.now) p) new) (sym is) has
@@ -264,9 +228,6 @@ no_other fault none labels [] h = h
 no_other fault none labels (f ∷ fs) (inl h) = none labels f h
 no_other fault none labels (f ∷ fs) (inr h) = no_other fault none (labels ++ place_label f ∷ []) fs h.1
 
-pub no_memory : (outside : Outside) (asked : AskedRun) (fault : RunFault) → fault ≡ faults.NoMemory → HasNoFirst outside asked fault
-no_memory outside asked fault e = subst (HasNoFirst outside asked) (sym e) tt
-
 pub places_fail : (outside : Outside) (asked : AskedRun) (labels : List Label) (fault : RunFault) → labels ≡ labels_before (list_asked asked) → AreNotAdded labels (places_asked asked) fault
     → HasNoFirst outside asked fault
 places_fail outside asked labels fault e h = by fault (subst (λ ls. AreNotAdded ls (places_asked asked) fault) e h)
@@ -305,11 +266,6 @@ set_up_fails outside asked old listed before faults.ProtocolViolation empty l fs
 set_up_fails outside asked old listed before (faults.CannotReadInit told) empty l fs h = h
 set_up_fails outside asked old listed before faults.InitNotText empty l fs h = h
 set_up_fails outside asked old listed before (faults.InitLine number cause) empty l fs h = h
-
--- the list is set up, or none is asked
-pub set_up_none : (list : Option (Bor (List ℕ))) (old : Scene) (owner : List ℕ) → ((x : Bor (List ℕ)) → list ≡ Some x → ⊥) → IsSetUp old owner (option_map (λ s. s.now) list) old
-set_up_none None old owner none = refl
-set_up_none (Some x) old owner none = absurd (none x refl)
 
 pub set_up_done : (list : Option (Bor (List ℕ))) (name : Bor (List ℕ)) (old new : Scene) (owner script : List ℕ) (count : ℕ) (came : Result ℕ ScriptFault) → list ≡ Some name
     → script ≡ setup_script name.now → came ≡ Ok count → Replays SceneAnswers SceneCloses old owner script came new → IsSetUp old owner (option_map (λ s. s.now) list) new

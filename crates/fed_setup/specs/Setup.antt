@@ -14,14 +14,14 @@ use Rattle.list_wrapper.specs.Lists.{IsNewList}
 use Rattle.csv_wrapper.specs.CsvBoxes.{IsNewCsv}
 use Rattle.jsonl_wrapper.specs.Boxes.{IsNewJsonl}
 use Rattle.session_wire.specs.Worlds.{Scene}
-use Rattle.fed_replay.specs.Replays.{Replays}
-use Rattle.fed_replay.specs.Engines.{SceneAnswers, SceneCloses}
-use Rattle.fed_replay.specs.declared.script.ScriptFault.{ScriptFault}
-use Rattle.fed_replay.specs.declared.script.ScriptFault.TheVariants as scripts
+use Rattle.fed_setup.specs.Replays.{Replays}
+use Rattle.fed_setup.specs.Engines.{SceneAnswers, SceneCloses}
+use Rattle.fed_setup.specs.declared.script.ScriptFault.{ScriptFault}
+use Rattle.fed_setup.specs.declared.script.ScriptFault.TheVariants as scripts
 use Rattle.fed_setup.specs.Demo.{demo_list, setup_script}
 use Rattle.fed_setup.specs.Inputs.{Inputs}
 use Rattle.source_kinds.specs.Databases.{IsNewDatabase}
-use Rattle.sqlite_databases.specs.Found.{Images}
+use Rattle.sqlite_writes.specs.Found.{Images}
 use Rattle.fed_words.specs.Places.{Place, source_kind, is_honest_place}
 use Rattle.fed_setup.specs.Told.{Came, replay_told}
 use Rattle.fed_words.specs.Words.{places_asked}

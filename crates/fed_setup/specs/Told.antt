@@ -4,8 +4,8 @@ use Rattle.std.specs.Borrow.{Bor}
 use Rattle.med_value.specs.Causes.{code_of, name_of}
 use Rattle.med_session.specs.declared.adding.AddFault.{AddFault}
 use Rattle.med_session.specs.declared.adding.AddFault.TheVariants as adding
-use Rattle.fed_replay.specs.declared.script.ScriptFault.{ScriptFault}
-use Rattle.fed_replay.specs.declared.script.ScriptFault.TheVariants as scripts
+use Rattle.fed_setup.specs.declared.script.ScriptFault.{ScriptFault}
+use Rattle.fed_setup.specs.declared.script.ScriptFault.TheVariants as scripts
 use Rattle.fed_setup.specs.declared.told.RunFault.{RunFault}
 use Rattle.fed_setup.specs.declared.told.RunFault.TheVariants as faults
 

@@ -6,11 +6,11 @@ ghost use Rattle.med_session.specs.Shows.{shown};
 ghost use Rattle.session_wire.specs.Worlds.{scene_of};
 ghost use Rattle.fed_setup.specs.Setup.{IsReadOf, ReadsNot, ReplaysInit};
 
+use crate::replay;
 use crate::surroundings::Surroundings;
 use crate::told::{RunFault, replay_told};
 use blob_store::disk::DiskFault;
 use fdw_api::wishes::Wrapper2;
-use fed_replay::replay;
 use med_session::Engine;
 
 /// The bytes of the init file, if one is asked: those that reading its path to its end gives.

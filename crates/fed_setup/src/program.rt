@@ -20,10 +20,10 @@ ghost use Rattle.fed_setup.specs.declared.told.RunFault.TheVariants as faults;
 
 use crate::demo::{demo_tables, setup_script};
 use crate::init::{read_init, replay_init};
+use crate::replay;
 use crate::surroundings::Surroundings;
 use crate::told::{RunFault, add_fault, setup_told};
 use fdw_api::wishes::Wrapper2;
-use fed_replay::replay;
 use fed_words::places::{AskedPlace, PlaceKind};
 use fed_words::words::AskedRun;
 use list_wrapper::ListWrapper;

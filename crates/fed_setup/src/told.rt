@@ -2,7 +2,7 @@
 ghost use Rattle.std.specs.Prelude.{◌≡◌};
 ghost use Rattle.fed_setup.specs.Told.{added_of, setup_told, replay_told};
 
-use fed_replay::ScriptFault;
+use crate::ScriptFault;
 use med_session::AddFault;
 use med_value::{Cause, NoMemory};
 use std::error::Error;

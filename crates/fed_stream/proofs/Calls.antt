@@ -1,15 +1,15 @@
 -- The calls that were made so far, and some more.
-use Rattle.std.proofs.Common.{◌≡◌, ◌≤◌, ◌⊎◌, inl, inr, ℕ, zero, suc, ◌+◌, Option, List, [], ◌∷◌, ◌++◌, length, take, map, Result, Ok, Err, refl, sym, ap, ◌∙◌, subst, append_assoc, append-nil, arith}
+use Rattle.std.proofs.Common.{◌≡◌, ◌⊎◌, inl, inr, ℕ, zero, suc, ◌+◌, Option, List, [], ◌∷◌, ◌++◌, take, map, Result, Ok, Err, refl, sym, ap, ◌∙◌, subst, append_assoc, arith}
 use Rattle.std.specs.Prelude.{⊤}
-use Rattle.fed_output.specs.Inlets.{Inlet, ReadsPiece, counted, interrupted}
-use Rattle.fed_output.specs.Outlets.{Outlet, Does, WritesFront, FlushesAtLast, FrontWritten}
-use Rattle.fed_output.specs.Known.{Known}
-use Rattle.fed_output.proofs.Known.{known_self, known_then, known_map}
-use Rattle.fed_output.proofs.Counts.{counted_more, does_nothing, does_more}
-use Rattle.fed_output.specs.declared.source.Arrival.{Arrival}
-use Rattle.fed_output.specs.declared.source.Arrival.TheVariants.{Byte, Interruption, Fault}
-use Rattle.fed_output.specs.declared.source.GivenUp.{GivenUp}
-use Rattle.fed_output.specs.declared.source.GivenUp.TheVariants as given_up
+use Rattle.fed_stream.specs.Inlets.{Inlet, ReadsPiece, counted, interrupted}
+use Rattle.fed_stream.specs.Outlets.{Outlet, WritesFront, FlushesAtLast, FrontWritten}
+use Rattle.fed_stream.specs.Known.{Known}
+use Rattle.fed_stream.proofs.Known.{known_self, known_then, known_map}
+use Rattle.fed_stream.proofs.Counts.{counted_more, does_nothing, does_more}
+use Rattle.fed_stream.specs.declared.source.Arrival.{Arrival}
+use Rattle.fed_stream.specs.declared.source.Arrival.TheVariants.{Byte, Interruption, Fault}
+use Rattle.fed_stream.specs.declared.source.GivenUp.{GivenUp}
+use Rattle.fed_stream.specs.declared.source.GivenUp.TheVariants as given_up
 use Rattle.fed_stream.specs.Calls.{IsClean, ReadsWithin, WritesStream, IsWrittenTo}
 use Rattle.fed_stream.specs.declared.stream.Ended.{Ended}
 use Rattle.fed_stream.specs.declared.stream.Ended.TheVariants as ended
@@ -41,11 +41,6 @@ writes_more x r a b c p q = record {
   does = does_more a b c p.text q.text p.interruptions q.interruptions p.faults q.faults p.does q.does;
   ends = ends_more a b c x r p.interruptions q.interruptions p.faults q.faults p.ends q.ends;
 }
-
--- a front was written, and a write was given up
-pub writes_front_fault : {S T : Type 0} (f : GivenUp) (front : List ℕ) (a b : Outlet) → WritesFront {T = S} a b (Err f) front → WritesStream {T = T} a b (Err faults.Write)
-writes_front_fault given_up.Failed front a b p = record { text = front; interruptions = p.times; faults = 1; does = p.does; ends = inl refl }
-writes_front_fault given_up.TooMany front a b p = record { text = front; interruptions = p.times; faults = 0; does = p.does; ends = inr (refl, p.too_many refl) }
 
 -- all was written, and then flushed
 pub writes_flushed : {S R T : Type 0} (x : S) (y : R) (z : T) (front : List ℕ) (a b c : Outlet) → WritesFront a b (Ok x) front → FlushesAtLast b c (Ok y) → WritesStream a c (Ok z)
@@ -99,12 +94,6 @@ known_more x a b c p q = known_written (Ok tt) a b c p (known_map b c _ _ (done_
 pub known_done : {T : Type 0} (x : T) (a b : Option Outlet) → Known a b WrittenSoFar → Known a b (λ v w. WritesStream v w (Ok x))
 known_done x a b p = known_map a b _ _ (λ v w q. record { text = q.text; interruptions = q.interruptions; faults = q.faults; does = q.does; ends = q.ends }) p
 
-pub known_unread : (T : Type 0) (a b : Option Outlet) → Known a b WrittenSoFar → Known a b (λ v w. WritesStream {T = T} v w (Err faults.Read))
-known_unread T a b p = known_map a b _ _ (λ v w q. record { text = q.text; interruptions = q.interruptions; faults = q.faults; does = q.does; ends = q.ends }) p
-
-pub known_too_long : (T : Type 0) (a b : Option Outlet) → Known a b WrittenSoFar → Known a b (λ v w. WritesStream {T = T} v w (Err faults.TooLong))
-known_too_long T a b p = known_map a b _ _ (λ v w q. record { text = q.text; interruptions = q.interruptions; faults = q.faults; does = q.does; ends = q.ends }) p
-
 -- a fault tells the same of what was written, whatever was to be told else
 retyped_ends : (S T : Type 0) (f : StreamFault) (a b : Outlet) (i n : ℕ) → IsWrittenTo {T = S} (Err f) a b i n → IsWrittenTo {T = T} (Err f) a b i n
 retyped_ends S T faults.Read a b i n p = p
@@ -127,12 +116,6 @@ known_flushed x y z held holds bytes a b c p q = known_then a b c _ _ _ (writes_
 pub known_unflushed : {S : Type 0} (R T : Type 0) (x : S) (f : GivenUp) (held holds : Option (List ℕ)) (bytes : List ℕ) (a b c : Option Outlet) → FrontWritten held holds a b (Ok x) bytes
     → Known b c (λ v w. FlushesAtLast {T = R} v w (Err f)) → Known a c (λ v w. WritesStream {T = T} v w (Err faults.Write))
 known_unflushed R T x f held holds bytes a b c p q = known_then a b c _ _ _ (writes_unflushed x f p.front) p.done q
-
-pub known_front : {S : Type 0} (T : Type 0) (f : GivenUp) (held holds : Option (List ℕ)) (bytes : List ℕ) (a b : Option Outlet) → FrontWritten {T = S} held holds a b (Err f) bytes → Known a b (λ v w. WritesStream {T = T} v w (Err faults.Write))
-known_front T f held holds bytes a b p = known_map a b _ _ (writes_front_fault f p.front) p.done
-
-pub known_no_room : (T : Type 0) (a : Option Outlet) → Known a a (λ v w. WritesStream {T = T} v w (Err faults.NoRoom))
-known_no_room T a = known_self a _ writes_no_room
 
 -- ---- reads
 

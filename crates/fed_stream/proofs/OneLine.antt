@@ -1,5 +1,5 @@
 -- The first line of some bytes has LF at its end alone.
-use Rattle.std.proofs.Common.{◌≡◌, ◌∙◌, ◌<◌, ◌≤◌, ◌+◌, ◌==◌, ℕ, zero, suc, Bool, true, false, not, cond, nat_lt, List, [], ◌∷◌, ◌++◌, length, Option, Some, None, MatchOption, position, slice_get, refl, sym, ap, subst, arith}
+use Rattle.std.proofs.Common.{◌≡◌, ◌∙◌, ◌<◌, ◌≤◌, ◌+◌, ◌==◌, ℕ, zero, suc, Bool, true, false, not, cond, nat_lt, List, [], ◌∷◌, ◌++◌, length, Some, None, MatchOption, position, slice_get, refl, sym, ap, subst, arith}
 use Rattle.std.specs.List.{position_or_len}
 use Rattle.fed_stream.specs.Served.{IsOneLine}
 

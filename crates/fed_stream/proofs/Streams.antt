@@ -1,21 +1,14 @@
 -- What is served so far, and one read more.
-use Rattle.std.proofs.Common.{◌≡◌, ◌≤◌, ℕ, Bool, true, false, cond, List, [], ◌++◌, length, Option, Some, None, Result, Ok, Err, refl, sym, ap, ◌∙◌, subst, append_assoc, append-nil}
-use Rattle.std.specs.Io.KnownBytes.{Consumes, Appends, Keeps}
-use Rattle.std.proofs.KnownBytes.{Consumes-nil, Appends-nil, Consumes-trans, Appends-trans, Consumes-kept, Appends-kept}
+use Rattle.std.proofs.Common.{◌≡◌, ◌≤◌, ℕ, Bool, true, false, cond, List, [], ◌++◌, length, Option, Some, None, Err, refl, sym, ap, ◌∙◌, subst, append_assoc, append-nil}
+use Rattle.std.specs.Io.KnownBytes.{Consumes, Appends}
+use Rattle.std.proofs.KnownBytes.{Consumes-nil, Appends-nil, Consumes-trans, Appends-trans}
 use Rattle.session_wire.specs.Run.{Steps, Fed, BrokenOff}
 use Rattle.session_wire.specs.Servers.{is_closed, held_back, unread_of}
 use Rattle.session_wire.specs.declared.server.Server.{Server}
-use Rattle.fed_output.specs.Outlets.{Outlet, FrontWritten}
-use Rattle.fed_output.specs.declared.source.GivenUp.{GivenUp}
 use Rattle.fed_stream.specs.Streams.{Stream, stream}
 use Rattle.fed_stream.specs.Served.{IsOneLine, Served, Serves, Fails}
 use Rattle.fed_stream.specs.declared.stream.StreamFault.{StreamFault}
 use Rattle.fed_stream.specs.declared.stream.StreamFault.TheVariants as faults
-
-keeps_none : (a b : Option (List ℕ)) → Consumes a b [] → Keeps a b
-keeps_none None b p = tt
-keeps_none (Some x) None p = absurd p
-keeps_none (Some x) (Some y) p = sym p
 
 -- what is left unread of a server, by whether its stream is closed
 pub unread_of-open : {H : Type 0} (server : Server H) → is_closed server ≡ false → unread_of server ≡ Some (held_back server)
@@ -42,16 +35,6 @@ served_none step ends old before left had held f e = record {
 pub served_open : {W : Type 0} (step : Steps W) (ends : W → W → Type 0) (old : W) (before : List ℕ) (new : W) (input output : Stream) (left : Option (List ℕ)) (held : List ℕ)
     → left ≡ Some held → Served step ends old before new left input output → Served step ends old before new (Some held) input output
 served_open step ends old before new input output left held e h = subst (λ l. Served step ends old before new l input output) e h
-
--- a read that gave nothing
-pub served_kept : {W : Type 0} (step : Steps W) (ends : W → W → Type 0) (old : W) (before : List ℕ) (new : W) (left had has held holds now : Option (List ℕ))
-    → Served step ends old before new left (stream had has) (stream held holds) → Keeps has now → Served step ends old before new left (stream had now) (stream held holds)
-served_kept step ends old before new left had has held holds now h k =
-    record { bytes = h.bytes; text = h.text; read = Consumes-kept had has now h.bytes h.read k; written = h.written; fed = h.fed }
-
-pub served_end : {W : Type 0} (step : Steps W) (ends : W → W → Type 0) (old : W) (before : List ℕ) (new : W) (left had has held holds now : Option (List ℕ))
-    → Served step ends old before new left (stream had has) (stream held holds) → Consumes has now [] → Served step ends old before new left (stream had now) (stream held holds)
-served_end step ends old before new left had has held holds now h k = served_kept step ends old before new left had has held holds now h (keeps_none has now k)
 
 -- bytes so far with a piece
 joined : {W : Type 0} (step : Steps W) (ends : W → W → Type 0) (old : W) (before bytes piece text : List ℕ) (new : W) (left : Option (List ℕ)) → Fed step ends old ((before ++ bytes) ++ piece) text new left → Fed step ends old (before ++ (bytes ++ piece)) text new left
@@ -229,26 +212,3 @@ pub parts_failed : {W : Type 0} (step : Steps W) (ends : W → W → Type 0) (ol
 parts_failed step ends old before piece rest mid after held holds part later new left writes fault j b n h e few one f had has c =
     part_failed step ends old before h.front h.text mid after held holds part later new left writes fault j b n h.fed h.written f few one had has
     (subst (λ bs. Consumes had has bs) (h.parts ∙ ap (λ l. h.front ++ l) e) c)
-
--- ---- one part
-
--- the text of a part was written, and then flushed
-pub part_written : {W T : Type 0} (step : Steps W) (ends : W → W → Type 0) (old : W) (before text items : List ℕ) (new : W) (left held mid holds : Option (List ℕ)) (now then : Option Outlet) (x : T)
-    → items ≡ text → Fed step ends old before text new left → FrontWritten held mid now then (Ok x) items → Keeps mid holds
-    → (all : List ℕ) × Appends held holds all × Fed step ends old before all new left
-part_written step ends old before text items new left held mid holds now then x e f w k = (
-  items,
-  Appends-kept held mid holds items (subst (λ l. Appends held mid l) (sym (w.parts ∙ ap (λ l. w.front ++ l) w.whole ∙ append-nil w.front)) w.written) k,
-  subst (λ l. Fed step ends old before l new left) (sym e) f,
-)
-
--- a front of the text of a part was written, and then no more
-pub part_unwritten : {W T : Type 0} (step : Steps W) (ends : W → W → Type 0) (old : W) (before text items : List ℕ) (new : W) (left held mid holds : Option (List ℕ)) (now then : Option Outlet) (r : Result T GivenUp)
-    → items ≡ text → Fed step ends old before text new left → FrontWritten held mid now then r items → Keeps mid holds
-    → Fails step ends old before new left (stream held holds) faults.Write
-part_unwritten step ends old before text items new left held mid holds now then r e f w k = (
-  w.front,
-  w.others,
-  Appends-kept held mid holds w.front w.written k,
-  subst (λ l. Fed step ends old before l new left) (sym e ∙ w.parts) f,
-)

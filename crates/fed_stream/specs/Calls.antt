@@ -1,9 +1,9 @@
 -- Which calls a stream makes of a source and a sink that tell them.
 use Rattle.std.specs.Prelude.{◌≡◌, ◌≤◌, ◌⊎◌, ⊤, ℕ, List, [], ◌∷◌, ◌++◌, length, Result, Ok, Err}
-use Rattle.fed_output.specs.Inlets.{Inlet, counted}
-use Rattle.fed_output.specs.Outlets.{Outlet, Does}
-use Rattle.fed_output.specs.declared.source.Arrival.{Arrival}
-use Rattle.fed_output.specs.declared.source.Arrival.TheVariants.{Byte, Interruption, Fault}
+use Rattle.fed_stream.specs.Inlets.{Inlet, counted}
+use Rattle.fed_stream.specs.Outlets.{Outlet, Does}
+use Rattle.fed_stream.specs.declared.source.Arrival.{Arrival}
+use Rattle.fed_stream.specs.declared.source.Arrival.TheVariants.{Byte, Interruption, Fault}
 use Rattle.fed_stream.specs.declared.stream.Ended.{Ended}
 use Rattle.fed_stream.specs.declared.stream.Ended.TheVariants as ended
 use Rattle.fed_stream.specs.declared.stream.StreamFault.{StreamFault}

@@ -1,14 +1,14 @@
 //! A server between a source and a sink.
 ghost use Rattle.std.specs.Prelude.{◌≡◌, ◌==◌, ◌<◌, ◌≤◌, ◌+◌, ◌++◌, ◌⊎◌, ℕ, List, length, position, Option, IfSome, MatchOption, true, false, Ok, Err, OnOk, IfErr};
-ghost use Rattle.std.specs.Io.KnownBytes.{Appends, Consumes, Keeps};
+ghost use Rattle.std.specs.Io.KnownBytes.{Appends, Consumes};
 ghost use Rattle.session_wire.specs.Run.{Fed};
 ghost use Rattle.session_wire.specs.Servers.{handler_of, is_closed, held_back, unread_of};
-ghost use Rattle.fed_output.specs.Known.{Known};
+ghost use Rattle.fed_stream.specs.Known.{Known};
 ghost use Rattle.fed_stream.specs.Calls.{ReadsStream, ReadsWithin, WritesStream};
 ghost use Rattle.fed_stream.specs.Served.{Serves, Fails};
 ghost use Rattle.fed_stream.specs.Streams.{stream};
 
-use fed_output::{GivenUp, Sink, Source, flush, read_piece, write_front};
+use crate::{GivenUp, Sink, Source, flush, read_piece, write_front};
 use session_wire::server::runs_join;
 use session_wire::{Handler, Server};
 use std::alloc::Global;

@@ -1,7 +1,6 @@
 -- The command line that the program understands, in the words of `clap`.
 use Rattle.std.specs.Prelude.{ℕ, List, [], ◌++◌, Option, Some, codes, true, option_and_then, option_map, unwrap_or, ◌≡◌, ◌⊎◌}
-use Rattle.clap.specs.Words.{App, Row, Rule, Text, Kinds, all_of, first_of, fault_of}
-use Rattle.clap.specs.Words.{new_app, new_rule, subcommand_of, with_rule, with_subcommand}
+use Rattle.clap.specs.Words.{App, Row, Rule, Text, Kinds, all_of, first_of, fault_of, new_app, new_rule, subcommand_of, with_rule, with_subcommand}
 use Rattle.clap.specs.declared.builder.ArgAction.TheVariants.{Set, Append}
 use Rattle.clap.specs.declared.builder.value_parser.ValueParser.TheVariants.{Unsigned}
 use Rattle.clap.specs.declared.error.ErrorKind.{ErrorKind}

@@ -9,8 +9,7 @@ use Rattle.fed_words.specs.Names.{IsSourceName}
 use Rattle.fed_words.specs.declared.places.PlaceFault.{PlaceFault}
 use Rattle.fed_words.specs.declared.places.PlaceFault.TheVariants as places
 use Rattle.fed_words.specs.declared.places.PlaceKind.TheVariants as kinds
-use Rattle.fed_words.specs.CommandLine.{command_line, command_in, value_in, faults, owner_named, list_named, init_named, IsHelp}
-use Rattle.fed_words.specs.CommandLine.{csv_given, jsonl_given, sqlite_given, places_given}
+use Rattle.fed_words.specs.CommandLine.{command_line, command_in, value_in, faults, owner_named, list_named, init_named, IsHelp, csv_given, jsonl_given, sqlite_given, places_given}
 use Rattle.fed_words.specs.declared.words.AskedRun.{AskedRun}
 use Rattle.fed_words.specs.declared.words.Service.{Service}
 use Rattle.fed_words.specs.declared.words.Service.TheVariants.{StandardInput, Connections}

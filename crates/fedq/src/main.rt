@@ -1,7 +1,7 @@
 //! The program `fedq`: one SQL front over tables that live elsewhere.
 #![tactic(auto)]
 
-use fed_program::{ArgsFault, run_on};
+use fed_cli::{ArgsFault, run_on};
 use std::env;
 use std::io::ErrorKind;
 use std::process::ExitCode;

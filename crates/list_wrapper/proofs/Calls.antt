@@ -1,5 +1,5 @@
 -- What the calls of a scan do to a list wrapper.
-use Rattle.std.proofs.Common.{◌≡◌, ◌≢◌, ℕ, ◌+◌, ◌-◌, ◌^◌, ◌<◌, ◌≤◌, ◌⊎◌, Bool, true, false, cond, ◌&&◌, List, [], ◌∷◌, ◌++◌, Option, Some, None, IsSome, Result, Ok, Err, OnOk, is_err, IfSome, map, drop, take, filter, min, option_map, slice_get, slice_index_or, zero, suc, refl, ap, sym, ◌∙◌, subst, arith, eqb, inl, inr}
+use Rattle.std.proofs.Common.{◌≡◌, ◌≢◌, ℕ, ◌+◌, ◌-◌, ◌^◌, ◌<◌, ◌≤◌, ◌⊎◌, Bool, true, false, cond, ◌&&◌, List, [], ◌∷◌, ◌++◌, Option, Some, None, IsSome, IfSome, map, drop, take, filter, min, option_map, slice_get, slice_index_or, zero, suc, refl, ap, sym, ◌∙◌, subst, arith, eqb, inl, inr}
 use Rattle.std.specs.Ordering.{nat_cmp}
 use Rattle.std.specs.List.{list_all}
 use Rattle.std.specs.BTreeMap as tree
@@ -21,9 +21,9 @@ use Rattle.list_wrapper.specs.Lists.{listed, rows_fit}
 use Rattle.list_wrapper.specs.declared.scans.Step.{Step}
 use Rattle.list_wrapper.specs.declared.scans.Walk.{Walk}
 use Rattle.list_wrapper.specs.declared.scans.Walk.TheVariants.{InTurn, ByIndex, ByKeys}
-use Rattle.list_wrapper.specs.Scans.{numbered, spec_is, params_of, left_by_keys, rows_left, rows_to_come, rows_at, listed_kinds, kinds_at, marked_bound, scan_is, scan_rows, mapped, list_state, NextIs, one_less, index_of, index_in, newer, ScanFits, ScansFit}
-use Rattle.place_index.specs.declared.index.PlaceIndex.{PlaceIndex}
-use Rattle.place_index.specs.Scans.{is_taken, rows_at as rows_of_places, Serves, Stands}
+use Rattle.list_wrapper.specs.Scans.{numbered, spec_is, params_of, left_by_keys, rows_ahead, rows_to_come, rows_at, listed_kinds, kinds_at, marked_bound, scan_is, scan_rows, mapped, list_state, NextIs, one_less, index_of, index_in, newer, ScanFits, ScansFit}
+use Rattle.wrapper_parts.specs.declared.index.PlaceIndex.{PlaceIndex}
+use Rattle.wrapper_parts.specs.Scans.{is_taken, rows_at_places as rows_of_places, Serves, Stands}
 use Rattle.list_wrapper.proofs.Numbered.{numbered_fit}
 use Rattle.list_wrapper.proofs.Maps.{mapped_get, mapped_insert, mapped_remove, apart}
 
@@ -47,9 +47,6 @@ at_some (Some x) e = (x, refl)
 
 pub open_there : (tables : List ListTable) (bound : List Bool) (m : BTreeMap ℕ ListScan) (staged : Option ListWrite) (next pulled n : ℕ) (scan : Scan) → scan_of (list_state tables bound m staged next pulled) n ≡ Some scan → IsSome (tree.get nat_cmp m n)
 open_there tables bound m staged next pulled n scan e = there (scan_is tables) _ _ (sym (mapped_get (scan_is tables) m n) ∙ e)
-
-pub live_there : (tables : List ListTable) (bound : List Bool) (m : BTreeMap ℕ ListScan) (staged : Option ListWrite) (next pulled n : ℕ) → IsSome (scan_of (list_state tables bound m staged next pulled) n) → IsSome (tree.get nat_cmp m n)
-live_there tables bound m staged next pulled n e = let w = at_some _ e in open_there tables bound m staged next pulled n w.0 w.1
 
 abbrev Fresh : BTreeMap ℕ ListScan → ℕ → Type 0
 Fresh m next = (k : ℕ) → next ≤ k → tree.get nat_cmp m k ≡ None
@@ -170,7 +167,7 @@ places_fit kinds (p ∷ ps) rows e = first (drop p rows) (rest_fit kinds p rows 
     first [] f g = g
     first (r ∷ rest) f g = rw ((both (row_fits kinds r.cells) _ f).0, g) refl
 
-left_typed : (kinds : List ColType) (spec : Spec) (params : Tuple) (rows : List TableRow) (walk : Walk) (at : ℕ) → ShowsTyped → list_all (λ r. row_fits kinds r.cells) rows ≡ true → list_all (λ r. shown_fits kinds spec r.cells) (map (given_row spec) (rows_left spec params rows walk at)) ≡ true
+left_typed : (kinds : List ColType) (spec : Spec) (params : Tuple) (rows : List TableRow) (walk : Walk) (at : ℕ) → ShowsTyped → list_all (λ r. row_fits kinds r.cells) rows ≡ true → list_all (λ r. shown_fits kinds spec r.cells) (map (given_row spec) (rows_ahead spec params rows walk at)) ≡ true
 left_typed kinds spec params rows InTurn at shows e = shown_typed kinds spec params (drop at rows) shows (rest_fit kinds at rows e)
 left_typed kinds spec params rows (ByIndex x) at shows e = shown_typed kinds spec params (drop at rows) shows (rest_fit kinds at rows e)
 left_typed kinds spec params rows (ByKeys places) at shows e = shown_all kinds spec (left_by_keys places.items rows at) shows (places_fit kinds (drop at places.items) rows e)
@@ -252,10 +249,6 @@ is_whole tables bound m staged next pulled n s scan is at whole =
 pub if_some : {X : Type 0} (o : Option X) (P : X → Type 0) (x : X) → o ≡ Some x → IfSome o P → P x
 if_some None P x e p = absurd cc
 if_some (Some y) P x e p = subst P (some_inj y x e) p
-
-pub at_ok : {T E P : Type 0} (r : Result T E) → is_err r ≡ false → OnOk r P → P
-at_ok (Ok x) e p = p
-at_ok (Err y) e p = absurd cc
 
 pub some_if : {X : Type 0} (o : Option X) (P : X → Type 0) (x : X) → o ≡ Some x → P x → IfSome o P
 some_if o P x e p = subst (λ (z : Option _). IfSome z P) (sym e) p

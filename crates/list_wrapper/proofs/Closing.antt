@@ -1,5 +1,5 @@
 -- What the end of a write does to a list wrapper.
-use Rattle.std.proofs.Common.{◌≡◌, ◌≢◌, ℕ, ◌+◌, ◌<◌, ◌≤◌, ◌⊎◌, Bool, true, false, not, ◌&&◌, nat_lt, List, [], ◌∷◌, Option, Some, None, IsSome, length, map, option_map, slice_get, slice_index_or, slice_set, zero, suc, refl, ap, sym, ◌∙◌, subst, rules, eqb, inl, inr, bytes_eq}
+use Rattle.std.proofs.Common.{◌≡◌, ◌≢◌, ℕ, ◌+◌, ◌<◌, ◌≤◌, ◌⊎◌, Bool, true, false, not, ◌&&◌, nat_lt, List, [], ◌∷◌, Option, Some, None, IsSome, length, map, option_map, slice_get, slice_index_or, slice_set, zero, suc, refl, ap, sym, ◌∙◌, subst, rules, eqb, inl, inr, bytes_eq, Contains}
 use Rattle.std.specs.List.{list_all}
 use Rattle.std.specs.Ordering.{nat_cmp}
 use Rattle.std.specs.String.{string_bytes}
@@ -9,15 +9,12 @@ use Rattle.std.proofs.lemmas.Bool.Decides.{eqb_tells}
 use lib.Pointwise.{bytes_decides}
 use Rattle.med_value.specs.Datum.{Tuple, tuple}
 use Rattle.med_value.specs.declared.value.Row.{Row}
-use Rattle.fdw_api.specs.Kinds.{Entry, Held, held, Known, Stored}
-use Rattle.fdw_api.specs.State.{BoxTable, Scan}
+use Rattle.fdw_api.specs.Kinds.{Entry, Held, held, Known, Stored, Change, all_fit}
+use Rattle.fdw_api.specs.State.{BoxTable, Scan, Staging}
 use Rattle.fdw_api.specs.Scan.{row_fits, TableRow}
-use Rattle.fdw_api.specs.Kinds.{Change, all_fit}
 use Rattle.med_value.specs.declared.value.ColType.{ColType}
 use Rattle.fdw_api.specs.Calls.{NoScan}
 use Rattle.fdw_api.specs.Writes.{CanClose, Closes, RefusesClose, row_of_change_fits, rows_after}
-use Rattle.fdw_api.specs.State.{Staging}
-use Rattle.std.proofs.Common.{Contains}
 use Rattle.med_value.specs.declared.cause.Cause.{Cause}
 use Rattle.med_value.specs.declared.cause.Cause.TheVariants.{TooLarge}
 use Rattle.fdw_api.specs.declared.interface.Fault.TheVariants.{Refused}

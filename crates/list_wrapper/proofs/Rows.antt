@@ -4,11 +4,11 @@ use Rattle.std.proofs.lemmas.List.{drop_all}
 use Rattle.med_value.specs.Datum.{Datum, Tuple, cell, tuple}
 use Rattle.med_value.specs.declared.value.Row.{Row}
 use Rattle.fdw_api.specs.Scan.{Spec, TableRow, given_row, shown_cells}
-use Rattle.place_index.specs.declared.index.PlaceIndex.{PlaceIndex}
-use Rattle.place_index.specs.Places.{equals, first_place, Follows}
-use Rattle.place_index.specs.Indexes.{IsIndexFrom}
-use Rattle.place_index.specs.Scans.{SoughtForm, sought, column_cells, takes, is_taken}
-use Rattle.place_index.proofs.Skipping.{skips, taken_needs}
+use Rattle.wrapper_parts.specs.declared.index.PlaceIndex.{PlaceIndex}
+use Rattle.wrapper_parts.specs.Places.{equals, first_place, Follows}
+use Rattle.wrapper_parts.specs.Indexes.{IsIndexFrom}
+use Rattle.wrapper_parts.specs.Scans.{SoughtForm, sought, column_cells, takes, is_taken}
+use Rattle.wrapper_parts.proofs.Skipping.{skips, taken_needs}
 use Rattle.list_wrapper.specs.declared.scans.Step.{Step}
 use Rattle.list_wrapper.specs.Scans.{numbered, left_in_turn, is_spent, NextOf, Moves}
 use Rattle.list_wrapper.proofs.Numbered.{row_at, next_numbered, length_numbered}

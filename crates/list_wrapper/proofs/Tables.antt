@@ -17,7 +17,7 @@ use Rattle.fdw_api.specs.Kinds.{Column, OptionForm, Held, held, kinds_of, Readin
 use Rattle.fdw_api.specs.declared.interface.Fault.TheVariants.{Refused}
 use Rattle.fdw_api.specs.Scan.{Spec, row_fits}
 use Rattle.fdw_api.specs.State.{BoxTable, BoxState, set_at, table_of}
-use Rattle.fdw_api.specs.Calls.{Allows, CanBind, Binds, Unbinds, IsLeast, RefusesBind}
+use Rattle.fdw_api.specs.Calls.{Allows, CanBind, Binds, IsLeast, RefusesBind}
 use Rattle.fdw_api.specs.Wishes.{AllowsPromise}
 use Rattle.list_wrapper.specs.declared.list.ListTable.{ListTable}
 use Rattle.list_wrapper.specs.declared.scans.ListScan.{ListScan}
@@ -60,13 +60,6 @@ marks tables bound t b new lt e q = split (eqb_tells q t)
     split : ((eqb q t ≡ true) × (q ≡ t)) ⊎ ((eqb q t ≡ false) × (q ≢ t)) → marked_bound (slice_index_or (slice_set bound t b) q false) (slice_get tables q) ≡ set_at (λ u. marked_bound (slice_index_or bound u false) (slice_get tables u)) t new q
     split (inl s) = rw (s.0, s.1, mark_same bound t b lt) e
     split (inr s) = rw (s.0, mark_other bound t q b s.1) refl
-
-pub list_unbinds : (tables : List ListTable) (bound : List Bool) (scans : BTreeMap ℕ ListScan) (staged : Option ListWrite) (next pulled t : ℕ) → t < length bound → Unbinds (list_state tables bound scans staged next pulled) t (list_state tables (slice_set bound t false) scans staged next pulled)
-list_unbinds tables bound scans staged next pulled t lt = record {
-  nature = refl;
-  ledger = ap (λ (f : ℕ → Option BoxTable). record (list_state tables bound scans staged next pulled).ledger { tables = f }) (λ i q. marks tables bound t false None lt refl q i);
-  leaves = λ honest. record { coming = λ q l o. refl; rows = λ u o. refl; holdings = λ r o. refl };
-}
 
 same_types : (a b : ColType) → same_type a b ≡ true → a ≡ b
 same_types types.Int types.Int e = refl

@@ -6,11 +6,11 @@ use Rattle.std.proofs.lemmas.List.Elements.{filter_passes, All-weaker}
 use Rattle.med_value.specs.Datum.{Tuple, tuple}
 use Rattle.med_value.specs.declared.value.Row.{Row}
 use Rattle.fdw_api.specs.Scan.{Spec, TableRow, IsComing, given_row, shown_cells, meets_exact}
-use Rattle.place_index.specs.Scans.{is_taken, rows_taken, rows_at as rows_of_places}
-use Rattle.place_index.proofs.Taking.{takes_sound, takes_exact}
+use Rattle.wrapper_parts.specs.Scans.{is_taken, rows_taken, rows_at_places as rows_of_places}
+use Rattle.wrapper_parts.proofs.Taking.{takes_sound, takes_exact}
 use Rattle.list_wrapper.specs.declared.scans.Walk.{Walk}
 use Rattle.list_wrapper.specs.declared.scans.Walk.TheVariants.{InTurn, ByIndex, ByKeys}
-use Rattle.list_wrapper.specs.Scans.{numbered, left_by_keys, rows_left, rows_to_come, Arranges}
+use Rattle.list_wrapper.specs.Scans.{numbered, left_by_keys, rows_ahead, rows_to_come, Arranges}
 use Rattle.list_wrapper.proofs.Numbered.{next_numbered, length_numbered}
 use Rattle.list_wrapper.proofs.Calls.{first_map}
 use Rattle.fdw_api.specs.Wishes.{WishForm, all_exact, is_fair}
@@ -50,15 +50,15 @@ unless_true false e = refl
 -- a scan that begins by a walk has what it may give
 pub arranged_comes : (spec : Spec) (params : Tuple) (rows : List TableRow) (walk : Walk) → Arranges spec params rows walk → IsComing rows spec params (rows_to_come spec params rows walk 0 spec.limit)
 arranged_comes spec params rows walk h = record {
-  taken = rows_left spec params rows walk 0;
+  taken = rows_ahead spec params rows walk 0;
   left_out = filter (λ r. not (is_taken spec params r)) rows;
   parts = IsPermutation-trans rows (rows_taken spec params rows ++ filter (λ r. not (is_taken spec params r)) rows) _
       (IsPermutation-filter_both (is_taken spec params) (λ r. not (is_taken spec params r)) (λ r. refl) rows)
-      (IsPermutation-append_left (filter (λ r. not (is_taken spec params r)) rows) (rows_taken spec params rows) (rows_left spec params rows walk 0) h.same);
+      (IsPermutation-append_left (filter (λ r. not (is_taken spec params r)) rows) (rows_taken spec params rows) (rows_ahead spec params rows walk 0) h.same);
   failing = All-weaker _ _ (λ r e. takes_sound spec params r.cells (unless_true _ e)) _ (filter_passes (λ r. not (is_taken spec params r)) rows);
-  exact = All-permutation (λ r. meets_exact spec.offered spec.answers params r.cells ≡ true) (rows_taken spec params rows) (rows_left spec params rows walk 0) h.same (All-weaker _ _ (λ r e. takes_exact spec params r.cells e) _ (filter_passes (is_taken spec params) rows));
+  exact = All-permutation (λ r. meets_exact spec.offered spec.answers params r.cells ≡ true) (rows_taken spec params rows) (rows_ahead spec params rows walk 0) h.same (All-weaker _ _ (λ r e. takes_exact spec params r.cells e) _ (filter_passes (is_taken spec params) rows));
   sorted = h.sorted;
-  is = first_map (given_row spec) spec.limit (rows_left spec params rows walk 0);
+  is = first_map (given_row spec) spec.limit (rows_ahead spec params rows walk 0);
 }
 
 -- whatever the limit

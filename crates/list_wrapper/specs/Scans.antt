@@ -18,8 +18,8 @@ use Rattle.fdw_api.specs.State.{Nature, BoxTable, Scan, Staging, Ledger, Content
 use Rattle.fdw_api.specs.Calls.{row_of}
 use Rattle.fdw_api.specs.Writes.{row_of_change_fits}
 use Rattle.std.specs.List.{list_all}
-use Rattle.place_index.specs.declared.index.PlaceIndex.{PlaceIndex}
-use Rattle.place_index.specs.Scans.{is_taken, rows_taken, rows_at as rows_of_places, Serves, Stands}
+use Rattle.wrapper_parts.specs.declared.index.PlaceIndex.{PlaceIndex}
+use Rattle.wrapper_parts.specs.Scans.{is_taken, rows_taken, rows_at_places as rows_of_places, Serves, Stands}
 use Rattle.list_wrapper.specs.declared.list.ListTable.{ListTable}
 use Rattle.list_wrapper.specs.declared.scans.ListScan.{ListScan}
 use Rattle.list_wrapper.specs.declared.scans.Step.{Step}
@@ -54,10 +54,10 @@ abbrev pub left_by_keys : List ℕ → List TableRow → ℕ → List TableRow
 left_by_keys places rows at = rows_of_places (drop at places) rows
 
 -- what of a table's rows a scan that goes by this walk takes and has not passed yet
-abbrev pub rows_left : Spec → Tuple → List TableRow → Walk → ℕ → List TableRow
-rows_left spec params rows InTurn at = left_in_turn spec params rows at
-rows_left spec params rows (ByIndex x) at = left_in_turn spec params rows at
-rows_left spec params rows (ByKeys places) at = left_by_keys places.items rows at
+abbrev pub rows_ahead : Spec → Tuple → List TableRow → Walk → ℕ → List TableRow
+rows_ahead spec params rows InTurn at = left_in_turn spec params rows at
+rows_ahead spec params rows (ByIndex x) at = left_in_turn spec params rows at
+rows_ahead spec params rows (ByKeys places) at = left_by_keys places.items rows at
 
 -- the order of two rows' cells by these keys (SQL:2016, <sort specification list>): the first key that tells them apart decides
 abbrev pub cells_cmp : List KeyForm → Tuple → Tuple → Ordering
@@ -66,12 +66,12 @@ cells_cmp (k ∷ ks) = then_cmp (on (λ c. cell c k.column) (key_cmp k.descendin
 
 -- a scan that begins may go by a walk: it has all rows that the scan takes, in an order that the promised keys allow
 pub record Arranges (spec : Spec) (params : Tuple) (rows : List TableRow) (walk : Walk) : Type 0 where
-  pub same : IsPermutation (rows_taken spec params rows) (rows_left spec params rows walk 0)
-  pub sorted : IsSorted (row_cmp spec.order) (rows_left spec params rows walk 0)
+  pub same : IsPermutation (rows_taken spec params rows) (rows_ahead spec params rows walk 0)
+  pub sorted : IsSorted (row_cmp spec.order) (rows_ahead spec params rows walk 0)
 
 -- what a scan has still to give: those, each as the scan shows it, and no more of them than may still come
 abbrev pub rows_to_come : Spec → Tuple → List TableRow → Walk → ℕ → Option ℕ → List GivenRow
-rows_to_come spec params rows walk at more = first_of more (map (given_row spec) (rows_left spec params rows walk at))
+rows_to_come spec params rows walk at more = first_of more (map (given_row spec) (rows_ahead spec params rows walk at))
 
 -- no more may come, and how many may once a row is given
 abbrev pub is_spent : Option ℕ → Bool
@@ -91,7 +91,7 @@ NextOf spec left at more (Some step) =
     × (first_of more (map (given_row spec) (left at)) ≡ row_of step.row ∷ first_of (one_less more) (map (given_row spec) (left step.after)))
 
 abbrev pub NextIs : Spec → Tuple → List TableRow → Walk → ℕ → Option ℕ → Option Step → Type 0
-NextIs spec params rows walk = NextOf spec (rows_left spec params rows walk)
+NextIs spec params rows walk = NextOf spec (rows_ahead spec params rows walk)
 
 -- the index by which a scan goes
 abbrev pub index_of : Walk → Option PlaceIndex

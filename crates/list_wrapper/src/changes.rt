@@ -1,5 +1,5 @@
 //! The staged changes of a write to a list, and what they make of its rows.
-ghost use Rattle.std.specs.Prelude.{◌≡◌, ◌∷◌, ◌++◌, [], true, Some, List, map, length, flat_map, option_map, replicate, slice_set, IfOk, IfErr, IfSome, IsSome, OnOk};
+ghost use Rattle.std.specs.Prelude.{◌≡◌, ◌++◌, [], true, Some, List, map, length, flat_map, option_map, replicate, slice_set, IfOk, IfErr, IfSome, IsSome, OnOk};
 ghost use Rattle.med_value.specs.declared.value.Row.{Row};
 ghost use Rattle.fdw_api.specs.Writes.{rows_after, inserted};
 ghost use Rattle.list_wrapper.specs.Lists.{no_line};

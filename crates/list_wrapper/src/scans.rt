@@ -1,12 +1,12 @@
 //! Live scans of lists, and the rows that they give.
-ghost use Rattle.std.specs.Prelude.{◌≡◌, true, None, map, length, option_map, IfOk, IfSome, IsSome, Some};
+ghost use Rattle.std.specs.Prelude.{◌≡◌, true, None, map, option_map, IfOk, IfSome, IsSome, Some};
 ghost use Rattle.std.specs.Ordering.{nat_cmp};
 ghost use Rattle.std.specs.BTreeMap as tree;
 ghost use Rattle.med_value.specs.Datum.{datum, tuple, cell};
 ghost use Rattle.fdw_api.specs.Scan.{restriction_form, spec_of};
 ghost use Rattle.fdw_api.specs.Wishes.{key_form};
-ghost use Rattle.place_index.specs.Scans.{Serves, Stands, sought, form_of, column_cells};
-ghost use Rattle.place_index.specs.Indexes.{IsIndexFrom};
+ghost use Rattle.wrapper_parts.specs.Scans.{Serves, Stands, sought, form_of, column_cells};
+ghost use Rattle.wrapper_parts.specs.Indexes.{IsIndexFrom};
 ghost use Rattle.list_wrapper.specs.Scans.{NextIs, NextOf, left_in_turn, left_by_keys, Arranges, is_spent, StandsAfter, Moves, ScanFits, spec_is, params_of, index_of, newer, index_in, one_less, numbered, rows_at};
 
 use crate::list::ListTable;
@@ -15,9 +15,9 @@ use fdw_api::interface::{RowId, SourceRow};
 use fdw_api::scan::ScanSpec;
 use fdw_api::wishes::OrderKey;
 use med_value::{NoMemory, Row, Value};
-use place_index::{PlaceIndex, Sought, sought_in, takes, value_at};
 use std::alloc::Global;
 use std::collections::BTreeMap;
+use wrapper_parts::{PlaceIndex, Sought, sought_in, takes, value_at};
 
 /// How a scan goes over the rows of its table.
 #[derive(Drop)]

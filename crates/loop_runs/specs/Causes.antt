@@ -13,6 +13,6 @@ eval_refusal Overflow = Refused OutOfRange
 eval_refusal ZeroDivisor = Refused DivisionByZero
 eval_refusal LacksMemory = NoMemory
 
-abbrev pub refusal : AnswerFault → Fault
-refusal (Evaluation f) = eval_refusal f
-refusal TooManyRows = Refused TooLarge
+abbrev pub run_fault : AnswerFault → Fault
+run_fault (Evaluation f) = eval_refusal f
+run_fault TooManyRows = Refused TooLarge

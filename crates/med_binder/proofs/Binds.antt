@@ -1,5 +1,5 @@
 -- What is told in turn may be told.
-use Rattle.std.proofs.Common.{◌≡◌, ◌⊎◌, ℕ, List, [], ◌∷◌, length, map, Option, string_bytes, Result, Ok, Err, IfOk, IfErr, All, Contains, inl, inr, arith, ap, sym, subst, ◌∙◌}
+use Rattle.std.proofs.Common.{◌≡◌, ◌⊎◌, ℕ, List, [], ◌∷◌, length, map, Option, string_bytes, Result, Ok, Err, IfOk, IfErr, All, Contains, inl, inr, arith, refl, ap, sym, subst, ◌∙◌}
 use Rattle.std.proofs.lemmas.List.{length-map}
 use Rattle.med_value.specs.declared.cause.Cause.{Cause}
 use Rattle.med_value.specs.declared.cause.Cause.TheVariants.{OutOfMemory}
@@ -14,7 +14,8 @@ use Rattle.bind_names.specs.Naming.{statement_name_causes}
 use Rattle.bind_types.specs.Typing.{written_type_causes, form_causes, union_causes, answer_types, output_type_causes, select_type_causes, statement_type_causes}
 use Rattle.bind_names.specs.Meaning.{Output, Meant, core_outputs, meant_in, meant}
 use Rattle.med_binder.specs.Binding.{AsksMeant, bound_kinds, BindCauses, BindTells}
-use Rattle.bind_names.specs.Telling.{TellsCause}
+use Rattle.bind_names.specs.Telling.{TellsCause, Passes}
+use Rattle.med_binder.specs.Looking.{IsLookedUp}
 use Rattle.med_binder.specs.Turns.{TellsInTurn, Binds, BindsKnown}
 
 -- ---- one after the other
@@ -43,7 +44,7 @@ widths_same tables q b width rows m k w r =
     let wide : width ≡ length outs = w ∙ sym (length-map b.names.items string_bytes) ∙ ap length m.names ∙ length-map outs (λ (o : Output). o.name) in
     ap (λ (n : ℕ). union_causes n rows) wide ∙ ap (union_causes (length outs)) (r ∙ k)
 
-pub outputs_told : (tables : List TableShape) (q : SelectTree) (causes : List Cause) (c : Cause) → causes ≡ output_type_causes tables q → TellsCause causes c → TellsCause (select_type_causes tables q) c
+outputs_told : (tables : List TableShape) (q : SelectTree) (causes : List Cause) (c : Cause) → causes ≡ output_type_causes tables q → TellsCause causes c → TellsCause (select_type_causes tables q) c
 outputs_told tables q causes c e t =
     tells_right (written_type_causes tables q) _ c (tells_right (form_causes (meant_in tables q).form) _ c (subst (λ (xs : List Cause). TellsCause xs c) e t))
 
@@ -51,9 +52,19 @@ pub form_told : (tables : List TableShape) (q : SelectTree) (b : BoundQuery) (c 
 form_told tables q b c m t =
     tells_right (written_type_causes tables q) _ c (tells_left _ (output_type_causes tables q) c (subst (λ (f : Form). TellsCause (form_causes f) c) m.form t))
 
-pub types_clear : (tables : List TableShape) (q : SelectTree) (b : BoundQuery) (causes : List Cause) → AsksMeant (meant_in tables q) b → written_type_causes tables q ≡ [] → form_causes (form_of b.select) ≡ [] → causes ≡ output_type_causes tables q
+types_clear : (tables : List TableShape) (q : SelectTree) (b : BoundQuery) (causes : List Cause) → AsksMeant (meant_in tables q) b → written_type_causes tables q ≡ [] → form_causes (form_of b.select) ≡ [] → causes ≡ output_type_causes tables q
     → causes ≡ [] → select_type_causes tables q ≡ []
 types_clear tables q b causes m w f e o = none_of_two _ _ w (none_of_two _ _ (ap form_causes (sym m.form) ∙ f) (sym e ∙ o))
+
+-- what the outputs of the cores tell last is told of the types
+pub outputs_judged : (tables : List TableShape) (q : SelectTree) (b : BoundQuery) (causes : List Cause) (r : Result Unit Cause) → AsksMeant (meant_in tables q) b → written_type_causes tables q ≡ [] → form_causes (form_of b.select) ≡ []
+    → causes ≡ output_type_causes tables q → Passes causes r → Passes (select_type_causes tables q) r
+outputs_judged tables q b causes (Ok x) m w f e o = types_clear tables q b causes m w f e o
+outputs_judged tables q b causes (Err c) m w f e t = outputs_told tables q causes c e t
+
+-- a query that was looked up is so over the entries that it has
+pub own_entries : (tables : List TableShape) (q : SelectTree) (es : List BoundEntry) (b : BoundQuery) → IsLookedUp tables q es b → IsLookedUp tables q b.entries.items b
+own_entries tables q es b is = record { meant = is.meant; entries = refl; kinds = is.kinds; clear = is.clear }
 
 -- ---- over entries that are known
 

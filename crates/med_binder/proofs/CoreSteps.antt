@@ -1,6 +1,5 @@
 -- Names of the cores of a query, looked up part by part.
 use Rattle.std.proofs.Common.{◌≡◌, ℕ, ◌+◌, ◌<◌, List, [], ◌∷◌, ◌++◌, map, flat_map, drop, length, get_or, if◌then◌else◌, refl, ap, sym, subst, ◌∙◌}
-use Rattle.std.proofs.lemmas.List.{map-append}
 use Rattle.med_value.specs.declared.cause.Cause.{Cause}
 use Rattle.med_syntax.specs.QueryTree.{ItemTree, GroupTree, CoreTree, SelectTree, cores_of}
 use Rattle.med_syntax.specs.QueryView.{core_tree}
@@ -120,9 +119,6 @@ others_sorted tables q rest n h =
     sorted_by_rest tables (map (key_meant s outs) q.keys) (map (key_place outs) q.keys) rest n q.others h
 
 -- ---- one core after another
-
-pub pushed : {X Y : Type 0} (f : X → Y) (old new : List X) (x : X) (y : Y) → new ≡ old ++ x ∷ [] → f x ≡ y → map f new ≡ map f old ++ y ∷ []
-pushed f old new x y e h = ap (map f) e ∙ map-append f old (x ∷ []) ∙ ap (λ z. map f old ++ z ∷ []) h
 
 pub cores_next : (tables : List TableShape) (sorting : Sorting) (all out new : List CoreForm) (n m : ℕ) (xs : List Core) (i : ℕ) (x : Core) → out ++ cores_meant tables sorting n (map core_tree (drop i xs)) ≡ all → i < length xs → x ≡ get_or xs i x
     → m ≡ n + length (entries_of (core_tree x).from) → new ≡ out ++ core_meant tables sorting n (core_tree x) ∷ [] → new ++ cores_meant tables sorting m (map core_tree (drop (i + 1) xs)) ≡ all

@@ -21,10 +21,10 @@ use Rattle.bind_names.specs.Naming.{counted_causes, column_causes, name_causes, 
 use Rattle.bind_types.specs.Typing.{type_of, types_of, takes, have_one_type, unless, comparing, as_number, as_text, as_ordered, as_call_all, as_call, as_condition, as_tested, ends_in_escape, as_pattern, type_causes, type_causes_of_all, condition_causes, item_type_causes, as_where, condition_type_causes, on_type_causes, joins_type_causes, chain_type_causes, sort_key_type_causes, key_type_causes, no_aggregate, no_risk, join_causes, chain_causes, grouping_causes, core_causes, form_causes, core_written_causes, order_type_causes, written_type_causes, answer_types, place_causes, in_place, output_type_causes, statement_type_causes, TypeCauses}
 use Rattle.med_value.specs.Causes.{phase_of}
 
-abbrev OfNames : List Cause → Type 0
+abbrev pub OfNames : List Cause → Type 0
 OfNames cs = All (λ (c : Cause). phase_of c ≡ Some 3) cs
 
-abbrev OfTypes : List Cause → Type 0
+abbrev pub OfTypes : List Cause → Type 0
 OfTypes cs = All (λ (c : Cause). phase_of c ≡ Some 4) cs
 
 none_of : (P : Cause → Type 0) → All P []
@@ -58,7 +58,7 @@ column_names : (s : Scope) (q : Option Name) (n : Name) → OfNames (column_caus
 column_names s q n = either_of named (has_entry s q) (counted_causes (candidates s q n)) (UndefinedTable ∷ []) (counted (candidates s q n)) (one_of named UndefinedTable refl)
 
 mutual
-  of_names : (s : Scope) (e : ExprTree) → OfNames (name_causes s e)
+  pub of_names : (s : Scope) (e : ExprTree) → OfNames (name_causes s e)
   of_names s (num n) = none_of named
   of_names s (negative n) = none_of named
   of_names s (text x) = none_of named
@@ -234,7 +234,7 @@ call_types (Some Max) (t ∷ []) = ordered_of t
 call_types (Some Max) (t ∷ u ∷ ts) = no_function
 
 mutual
-  of_types : (s : Scope) (e : ExprTree) → OfTypes (type_causes s e)
+  pub of_types : (s : Scope) (e : ExprTree) → OfTypes (type_causes s e)
   of_types s (num n) = none_of typed
   of_types s (negative n) = none_of typed
   of_types s (text x) = none_of typed

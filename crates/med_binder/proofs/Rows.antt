@@ -60,10 +60,6 @@ first_by false at p r e h = h
 some_same : {X : Type 0} (x y : X) → Some x ≡ Some y → x ≡ y
 some_same x y e = cc
 
-false_from : (b : Bool) → (b ≡ true → ⊥) → b ≡ false
-false_from true h = absurd (h refl)
-false_from false h = refl
-
 -- a name is not one that stands behind another, where each stands once
 apart : (n : Name) (ts : List TableObject) (k : ℕ) (t : TableObject) → AllByRecursion (λ m. bytes_eq n m ≡ false) (map (λ (x : TableObject). x.name) ts) → slice_get ts k ≡ Some t → bytes_eq n t.name ≡ false
 apart n [] k t h at = absurd cc

@@ -1,19 +1,23 @@
 -- What looking up the tables of FROM in a catalogue answers.
-use Rattle.std.specs.Prelude.{◌≡◌, ◌⊎◌, List, [], map, length, Contains, true, Option, slice_get, Result, Ok, Err}
+use Rattle.std.specs.Prelude.{◌≡◌, ◌⊎◌, List, [], map, flat_map, length, Contains, true, Option, slice_get, Result, Ok, Err}
 use Rattle.med_value.specs.declared.cause.Cause.{Cause}
 use Rattle.med_value.specs.declared.cause.Cause.TheVariants.{OutOfMemory}
 use Rattle.med_syntax.specs.Tree.{Name}
 use Rattle.med_syntax.specs.QueryTree.{EntryTree, SelectTree, StatementTree, select}
+use Rattle.med_syntax.specs.QueryView.{select_tree}
 use Rattle.med_query.specs.Select.{are_safe_cores}
-use Rattle.bind_names.specs.Scope.{TableShape, entry_place, entry_columns, query_scope}
-use Rattle.bind_names.specs.Naming.{select_name_causes}
+use Rattle.bind_names.specs.Scope.{TableShape, table_shape, entry_place, entry_columns, query_entries, query_scope}
+use Rattle.bind_names.specs.Naming.{entry_causes, select_name_causes}
+use Rattle.bind_names.specs.Telling.{TellsCause}
 use Rattle.bind_names.specs.declared.table.TableView.{TableView}
 use Rattle.bind_types.specs.Typing.{answer_types, select_type_causes}
 use Rattle.med_binder.specs.Binding.{IsMeant, bound_kinds}
 use Rattle.med_binder.specs.Counted.{bound_widths}
+use Rattle.med_binder.specs.Looking.{IsLookedUp}
 use Rattle.med_binder.specs.Within.{widths}
 use Rattle.med_binder.specs.declared.bound.BoundEntry.{BoundEntry}
 use Rattle.med_binder.specs.declared.bound.BoundQuery.{BoundQuery}
+use Rattle.med_binder.specs.declared.named.NamedQuery.{NamedQuery}
 use Rattle.med_binder.specs.Place as offered
 use Rattle.med_catalog.specs.Objects.{Objects}
 use Rattle.med_binder.specs.Tables.{shapes}
@@ -48,6 +52,28 @@ pub record AreEntriesAt (o : Objects) (bound : List Attached) (es : List EntryTr
   pub widths : map (λ (b : BoundEntry). b.width) bs ≡ map (λ (e : EntryTree). length (entry_columns (shapes o) e)) es
   pub there : ArePlaces bound (map (λ (b : BoundEntry). b.place) bs) (map offered.entry_place bs)
 
+-- ---- names and rights
+
+-- The names of the query are resolved over the tables that its entries name, each taken from the catalogue, and no cause of names or rights
+-- stands: the types of what it writes are those over the whole catalogue.
+pub record IsNamedOver (o : Objects) (bound : List Attached) (user : Name) (q : SelectTree) (n : NamedQuery) : Type 0 where
+  pub written : select_tree n.select.now ≡ q
+  pub gathered : map table_shape n.tables.items ≡ map (gathered_shape (shapes o)) (query_entries q)
+  pub known : flat_map (entry_causes (shapes o)) (query_entries q) ≡ []
+  pub entries : AreEntriesAt o bound (query_entries q) n.query.entries.items
+  pub looked_up : IsLookedUp (map table_shape n.tables.items) q n.query.entries.items n.query
+  pub rights : query_right_causes o user q ≡ []
+
+-- a cause of names or rights is told, or that memory was refused
+pub record IsNameTold (o : Objects) (user : Name) (q : SelectTree) (c : Cause) : Type 0 where
+  pub told : (c ≡ OutOfMemory) ⊎ QueryNames o user q c
+
+abbrev pub NamesOver : Objects → List Attached → Name → SelectTree → Result NamedQuery Cause → Type 0
+NamesOver o bound user q (Ok n) = IsNamedOver o bound user q n
+NamesOver o bound user q (Err c) = IsNameTold o user q c
+
+-- ---- types
+
 -- the query, over entries with the columns of their tables, and no cause stands
 pub record IsBoundOver (o : Objects) (bound : List Attached) (user : Name) (q : SelectTree) (b : BoundQuery) : Type 0 where
   pub meant : IsMeant (meant_by o q) b
@@ -58,6 +84,13 @@ pub record IsBoundOver (o : Objects) (bound : List Attached) (user : Name) (q : 
   pub names : select_name_causes (shapes o) q ≡ []
   pub rights : query_right_causes o user q ≡ []
   pub types : select_type_causes (shapes o) q ≡ []
+
+-- the types of a query whose names are resolved: it is bound, or one of their causes is told
+abbrev pub TypesOver : Objects → List Attached → Name → SelectTree → Result BoundQuery Cause → Type 0
+TypesOver o bound user q (Ok b) = IsBoundOver o bound user q b
+TypesOver o bound user q (Err c) = TellsCause (select_type_causes (shapes o) q) c
+
+-- ---- both
 
 -- what is told: of names or rights, or of types where none of both stands
 pub record IsToldOver (o : Objects) (user : Name) (q : SelectTree) (c : Cause) : Type 0 where

@@ -1,7 +1,7 @@
 //! The names of a query.
 #![tactic(auto, using(bind_names::proofs::Causes::tells_left, bind_names::proofs::Causes::tells_right, bind_names::proofs::Causes::tells_memory, bind_names::proofs::Causes::tells_one, bind_names::proofs::Causes::none_of_two))]
 
-ghost use Rattle.bind_names.specs.Meaning.{rows_left};
+ghost use Rattle.bind_names.specs.Meaning.{limit_of};
 ghost use Rattle.bind_names.specs.Naming.{core_alias_causes, entry_causes};
 ghost use Rattle.bind_names.specs.Scope.{query_entries, table_shape};
 ghost use Rattle.bind_names.specs.Telling.{Passes};
@@ -38,7 +38,7 @@ fn check_each_names(alloc: Global, tables: &[TableView<'_>], cores: &[Core]) -> 
 
 // How many rows LIMIT leaves at most: without it, and by ALL, there is no bound.
 fn rows_left(limit: &Option<Limit>) -> Option<usize>
-    ensures { result ≡ rows_left (option_map limit_tree limit.now) }
+    ensures { result ≡ limit_of (option_map limit_tree limit.now) }
 {
     match limit {
         None => None,

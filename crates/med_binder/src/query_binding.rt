@@ -3,12 +3,14 @@
 ghost use Rattle.bind_names.specs.Meaning.{meant_in};
 ghost use Rattle.bind_names.specs.Naming.{entry_causes, select_name_causes};
 ghost use Rattle.bind_names.specs.Scope.{query_entries, table_shape};
+ghost use Rattle.bind_names.specs.Telling.{Passes};
 ghost use Rattle.bind_types.specs.Typing.{answer_types, select_type_causes};
 ghost use Rattle.med_binder.specs.Binding.{bound_kinds};
+ghost use Rattle.med_binder.specs.Looking.{IsLookedUp};
 ghost use Rattle.med_binder.specs.Turns.{BindsKnown};
 ghost use Rattle.med_query.specs.Select.{are_safe_cores};
 ghost use Rattle.med_syntax.specs.QueryView.{select_tree};
-ghost use Rattle.std.specs.Prelude.{◌≡◌, [], flat_map, map, true, IfOk};
+ghost use Rattle.std.specs.Prelude.{◌≡◌, [], flat_map, map, true, IfOk, OnOk};
 
 use crate::bound::{BoundEntry, BoundQuery};
 use crate::look_up::look_up;
@@ -18,8 +20,24 @@ use med_syntax::Select;
 use med_value::Cause;
 use std::alloc::Global;
 
-/// A query over tables that have each that its FROM names, and its entries: its names, then its types, then where its aggregates and
-/// columns stand, then the outputs of its cores.
+/// Checks the types of a query over tables that have each that its FROM names, its names being resolved: the types of what it writes, then
+/// where its aggregates and columns stand, then the outputs of its cores.
+pub(crate) fn check_types(
+    alloc: Global,
+    select: &Select,
+    tables: &[TableView<'_>],
+    bound: &BoundQuery,
+) -> Result<(), Cause>
+    ensures passes { IsLookedUp (map table_shape tables.now) (select_tree select.now) bound.now.entries.items bound.now
+        → Passes (select_type_causes (map table_shape tables.now) (select_tree select.now)) result }
+    ensures safe { OnOk result (are_safe_cores bound.now.select.cores.items ≡ true) }
+{
+    check_written(alloc, select, tables)?;
+    check_form(&bound.select)?;
+    check_outputs(bound.kinds.as_slice(), bound.names.len())
+}
+
+/// A query over tables that have each that its FROM names, and its entries: its names, then its types.
 pub(crate) fn bind_known(
     alloc: Global,
     select: &Select,
@@ -34,8 +52,6 @@ pub(crate) fn bind_known(
     ensures safe { IfOk result (λ b. are_safe_cores b.select.cores.items ≡ true) }
 {
     let bound = look_up(alloc, select, tables, entries)?;
-    check_written(alloc, select, tables)?;
-    check_form(&bound.select)?;
-    check_outputs(bound.kinds.as_slice(), bound.names.len())?;
+    check_types(alloc, select, tables, &bound)?;
     Ok(bound)
 }

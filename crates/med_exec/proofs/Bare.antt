@@ -1,6 +1,5 @@
 -- The run of a query of all rows of one table checks nothing of them again.
-use Rattle.std.proofs.Common.{◌≡◌, ◌∙◌, ◌<◌, ℕ, false, List, [], ◌∷◌, ◌++◌, map, length, flat_map, All, refl, sym, ap, subst, arith}
-use Rattle.std.specs.List.{range_with_len}
+use Rattle.std.proofs.Common.{◌≡◌, ◌<◌, ℕ, List, [], ◌∷◌, ◌++◌, map, length, flat_map, All, ap, subst, arith}
 use Rattle.std.proofs.lemmas.List.Elements.{All-head}
 use Rattle.tri_expr.specs.Tree.{Tree}
 use Rattle.med_query.specs.Form.{ChainForm, CoreForm, core_form, form_of}

@@ -1,9 +1,9 @@
 -- What is counted where no scan is begun.
 use Rattle.std.proofs.Common.{ℕ, List, Option, ap, sym, ◌∙◌, add-zero}
 use Rattle.fdw_api.specs.State.{BoxState}
-use Rattle.scan_loops.specs.Counting.{next_in, BeginsNone}
+use Rattle.scan_loops.specs.Counting.{next_in, BeginsNone, none_in}
 use Rattle.scan_loops.specs.Scans.{or_none}
-use Rattle.med_exec.specs.Counting.{none_in, BeginsScans}
+use Rattle.med_exec.specs.Counting.{BeginsScans}
 
 -- the loops count the next numbers of all slots
 pub begins_none : (old new : List (Option BoxState)) → BeginsNone old new → BeginsScans none_in old new

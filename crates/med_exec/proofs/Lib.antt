@@ -6,7 +6,7 @@ pub mod Leaving
 pub mod Left
 pub mod Going
 mod Agreements
-mod Reading
+mod RunReading
 mod Counts
 mod Planning
 mod Words
@@ -14,3 +14,13 @@ mod Beginning
 mod Plain
 mod Bare
 mod Opening
+pub mod ScanLemmas
+pub mod RowScans
+pub mod StagedChanges
+pub mod MadeChanges
+pub mod DistinctIds
+pub mod ChangesFit
+pub mod LeftOut
+pub mod BoxWrites
+pub mod WrittenRows
+pub mod Fitted

@@ -49,7 +49,7 @@ use Rattle.med_exec.specs.Offers.{cores_offers, query_offers, query_wish, IsOffe
 use Rattle.med_exec.specs.BoundPulling.{AreAgreed}
 use Rattle.med_exec.specs.BoundRunning.{IsReady, IsPlanFor}
 use Rattle.med_exec.proofs.Counts.{all_scans}
-use Rattle.med_exec.proofs.Reading.{each_on, numbers_below, joined_over}
+use Rattle.med_exec.proofs.RunReading.{each_on, numbers_below, joined_over}
 
 -- ---- offers are put to boxes that have their tables
 

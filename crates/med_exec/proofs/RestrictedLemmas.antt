@@ -9,7 +9,7 @@ use Rattle.med_value.specs.Datum.{Tuple, cell}
 use Rattle.fdw_api.specs.Scan.{Spec, RestrictionForm, GivenRow, TableRow, IsComing, checks, pick, meets, meets_all, meets_exact, given_row, shown_cells}
 use Rattle.fdw_api.specs.declared.scan.Agree.{Agree}
 use Rattle.fdw_api.specs.declared.scan.Agree.TheVariants.{Ignored, Hint, Exact}
-use Rattle.med_exec.specs.Reading.{cells_of}
+use Rattle.med_write.specs.Making.{cells_of}
 use Rattle.fdw_api.proofs.Unpromised.{all_first}
 use Rattle.med_exec.specs.Restricted.{ShowsAll, place_in, place_shown, all_wanted, meets_shown, meets_rest, checked, AreRestricted}
 

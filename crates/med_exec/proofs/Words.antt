@@ -1,7 +1,6 @@
 -- What the runs of loops say, in the words of med_exec and med_planner.
-use Rattle.std.proofs.Common.{◌≡◌, ◌∙◌, ◌+◌, ℕ, inl, inr, List, map, Option, Result, Ok, Err, IfOk, IfErr, ap, sym, subst}
+use Rattle.std.proofs.Common.{◌≡◌, ◌∙◌, ◌+◌, ℕ, inr, List, map, Option, Result, Ok, Err, IfOk, IfErr, ap, sym, subst}
 use Rattle.med_value.specs.Datum.{Tuple}
-use Rattle.med_value.specs.declared.cause.Cause.{Cause}
 use Rattle.med_query.specs.Query.{Query, Tables, IsAnswer}
 use Rattle.med_query.specs.Select.{query_of}
 use Rattle.med_query.specs.declared.select.Select.{Select}

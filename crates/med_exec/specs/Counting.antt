@@ -2,10 +2,6 @@
 use Rattle.std.specs.Prelude.{◌≡◌, ◌+◌, ℕ, List, Option, Some, slice_get}
 use Rattle.fdw_api.specs.State.{BoxState}
 
--- a number for each slot: none
-abbrev pub none_in : ℕ → ℕ
-none_in slot = 0
-
 -- so many scans were begun in the box of each slot: its next number is higher by just so many
 abbrev pub BeginsScans : (ℕ → ℕ) → List (Option BoxState) → List (Option BoxState) → Type 0
 BeginsScans count old new =

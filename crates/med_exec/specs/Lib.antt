@@ -2,7 +2,6 @@ pub mod Slots
 pub mod Reading
 pub mod Scanning
 pub mod Restricted
-pub mod Refusing
 pub mod Running
 pub mod Counting
 pub mod Pulling
@@ -14,3 +13,8 @@ pub mod BoundCounting
 pub mod BoundPulling
 pub mod BoundRunning
 pub mod Starting
+pub mod Rising
+pub mod WriteReading
+pub mod Staging
+pub mod Writing
+pub mod Fitting

@@ -1,10 +1,10 @@
 -- One scan, from its begin to its end.
-use Rattle.std.specs.Prelude.{◌≡◌, ◌≢◌, ℕ, zero, suc, List, map, length, Some}
+use Rattle.std.specs.Prelude.{◌≡◌, ◌≢◌, ℕ, zero, suc, List, length, Some}
 use Rattle.med_value.specs.Datum.{Tuple}
-use Rattle.fdw_api.specs.Scan.{GivenRow}
 use Rattle.fdw_api.specs.State.{Scan, BoxState, is_honest, scan_of}
 use Rattle.fdw_api.specs.Calls.{bumped, LeavesOthers, faults_after, not_refused}
 use Rattle.fdw_api.specs.declared.interface.Fault.{Fault}
+use Rattle.med_write.specs.Making.{cells_of}
 
 -- `pulled` after so many rows were given: one more with each, staying at 2^64 - 1
 abbrev pub pulled_after : ℕ → ℕ → ℕ
@@ -19,10 +19,6 @@ pub record Keeps (number : ℕ) (old new : BoxState) : Type 0 where
   pub next : new.ledger.next ≡ old.ledger.next
   pub others : (q : ℕ) → q ≢ number → scan_of new q ≡ scan_of old q
   pub leaves : is_honest old → LeavesOthers number old new
-
--- the cells of the rows that a scan gives
-abbrev pub cells_of : List GivenRow → List Tuple
-cells_of rows = map (λ r. r.cells) rows
 
 -- the scan has given all its rows, and is live still
 pub record GivesAll (number : ℕ) (old : BoxState) (given : List Tuple) (new : BoxState) : Type 0 where

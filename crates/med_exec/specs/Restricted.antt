@@ -5,7 +5,7 @@ use Rattle.med_value.specs.Datum.{Tuple, cell}
 use Rattle.fdw_api.specs.Scan.{Spec, RestrictionForm, GivenRow, TableRow, checks, meets_all, shown_cells}
 use Rattle.fdw_api.specs.declared.scan.Agree.{Agree}
 use Rattle.fdw_api.specs.declared.scan.Agree.TheVariants.{Ignored, Hint, Exact}
-use Rattle.med_exec.specs.Reading.{cells_of}
+use Rattle.med_write.specs.Making.{cells_of}
 
 -- the list parts into these, which pass, and others, which do not
 pub record Selects {X : Type 0} (p : X → Bool) (rows selected : List X) : Type 0 where

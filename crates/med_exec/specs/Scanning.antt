@@ -5,7 +5,8 @@ use Rattle.fdw_api.specs.Scan.{Spec, GivenRow, IsComing}
 use Rattle.fdw_api.specs.State.{BoxState, is_honest, rows_of}
 use Rattle.fdw_api.specs.Calls.{LeavesAll, faults_after, BeginCause}
 use Rattle.fdw_api.specs.declared.interface.Fault.{Fault}
-use Rattle.med_exec.specs.Reading.{pulled_after, cells_of}
+use Rattle.med_exec.specs.Reading.{pulled_after}
+use Rattle.med_write.specs.Making.{cells_of}
 
 -- one scan by this specification, without parameters, was begun, gave these rows and was ended: they are some that it may give,
 -- whatever the wrapper took over

@@ -1,6 +1,5 @@
 -- The start of a bound query's run.
-use Rattle.std.specs.Prelude.{◌≡◌, ◌<◌, ◌⊎◌, ℕ, false, nat_eq, if◌then◌else◌}
-use Rattle.std.specs.Prelude.{List, [], ◌∷◌, length, Option, Some}
+use Rattle.std.specs.Prelude.{◌≡◌, ◌<◌, ◌⊎◌, ℕ, false, nat_eq, if◌then◌else◌, List, [], ◌∷◌, length, Option, Some}
 use Rattle.std.specs.List.{IsDistinct}
 use Rattle.med_query.specs.Form.{form_of, is_risky_form}
 use Rattle.med_planner.specs.Plain.{IsPlainForm, IsBareForm}

@@ -6,7 +6,7 @@ ghost use Rattle.pushdown.specs.Joins.{Each};
 ghost use Rattle.scan_loops.specs.Slots.{states};
 ghost use Rattle.med_planner.specs.Offered.{offer_form};
 ghost use Rattle.med_planner.specs.Premises.{IsAllowed, AreAllowed};
-ghost use Rattle.med_exec.specs.Offers.{offers_in, answers_in, IsOffered, AllAllowed};
+ghost use Rattle.med_exec.specs.Offers.{IsOffered};
 
 use fdw_api::interface::Fault;
 use fdw_api::wishes::{Agreement2, Wish, Wrapper2};
@@ -42,8 +42,9 @@ fn agree<W: Wrapper2>(
     Ok(agreement)
 }
 
-// What the boxes agree to of the scans of one core.
-fn agree_core<W: Wrapper2>(
+/// What the boxes agree to of the scans of one core: each offer is put to the box of its own source, with the wish. Refused only for want
+/// of memory.
+pub(crate) fn agree_core<W: Wrapper2>(
     slots: &Vec<Option<W>>,
     alloc: Global,
     wish: &Wish,
@@ -61,36 +62,6 @@ fn agree_core<W: Wrapper2>(
             Err(fault) => return Err(fault),
         };
         if all.push(agreement).is_err() {
-            return Err(Fault::NoMemory);
-        }
-    }
-    Ok(all)
-}
-
-/// What the boxes agree to of the scans of a query, which were offered so: each offer is put to the box of its own source, with the wish. A
-/// run by these agreements is allowed as long as the tables are bound.
-///
-/// Refused only for want of memory.
-///
-/// PostgreSQL: Writing a Foreign Data Wrapper, `GetForeignPlan`.
-pub fn agree_query<W: Wrapper2>(
-    slots: &Vec<Option<W>>,
-    alloc: Global,
-    wish: &Wish,
-    offers: &[Vec<LoopOffer>],
-) -> Result<Vec<Vec<Agreement2>>, Fault>
-    requires { Each (Each (IsOffered (states W.meaning slots.now.items))) (offers_in offers.now) }
-    ensures ok { IfOk result (λ all. AllAllowed (states W.meaning slots.now.items) (wish_form wish.now) (offers_in offers.now)
-        (answers_in all.items)) }
-    ensures err { IfErr result (λ fault. fault ≡ WantOfMemory) }
-{
-    let mut all = Vec::new(alloc);
-    for core in offers {
-        let agreed = match agree_core(slots, alloc, wish, core.as_slice()) {
-            Ok(agreed) => agreed,
-            Err(fault) => return Err(fault),
-        };
-        if all.push(agreed).is_err() {
             return Err(Fault::NoMemory);
         }
     }

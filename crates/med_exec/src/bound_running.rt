@@ -16,11 +16,9 @@ ghost use Rattle.med_exec.specs.BoundRunning.{IsReady, IsPlanFor, RunAnswers};
 ghost use Rattle.med_exec.specs.Starting.{HoldsFor, AsksNone, ShowsAll, OpensScans};
 
 use crate::Run;
-use crate::accepting::accept_query;
-use crate::agreeing::agree_query;
 use crate::law::runs_have_rests;
-use crate::offering::offer_query;
 use crate::places::has_places;
+use crate::query_loops::plan_loops;
 use fdw_api::interface::Fault;
 use fdw_api::wishes::Wrapper2;
 use loop_runs::{LoopPlan, is_shown, run_plan, start_plan};
@@ -29,7 +27,6 @@ use med_planner::plan_laws::{
     bound_cores_are_in_view, bound_levels_can_start, bound_rows_are_wide, plans_are_loop_plans,
     wished_rows_come_in_order,
 };
-use med_planner::wish_of;
 use med_value::Row;
 use std::alloc::Global;
 
@@ -49,18 +46,9 @@ fn planned<W: Wrapper2>(
     bound_levels_can_start();
     plans_are_loop_plans();
     wished_rows_come_in_order();
-    let Ok(offers) = offer_query(alloc, &bound) else {
-        return Err(Fault::NoMemory);
-    };
-    let Ok(wish) = wish_of(alloc, &bound.select, offers.as_slice()) else {
-        return Err(Fault::NoMemory);
-    };
-    let answers = match agree_query(slots, alloc, &wish, offers.as_slice()) {
-        Ok(answers) => answers,
+    let loops = match plan_loops(slots, alloc, &bound) {
+        Ok(loops) => loops,
         Err(fault) => return Err(fault),
-    };
-    let Ok(loops) = accept_query(alloc, &wish, offers, answers) else {
-        return Err(Fault::NoMemory);
     };
     let BoundQuery { select, .. } = bound;
     Ok(LoopPlan { loops, select })

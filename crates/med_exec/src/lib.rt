@@ -8,23 +8,32 @@
 //!
 //! Runs of bound queries by loops: what stands between a query over tables of boxes and the runs that answer it.
 //!
-//! The scans of a query's entries are offered the conditions that they may take over ([`offer_query`]), each to the box of its own source
-//! ([`agree_query`]), with the order and the limit that are wished of them ([`med_planner::wish_of`]); what the boxes answered makes the
-//! loops of each core ([`accept_query`]). [`run_bound`] plans a query so, and runs it; [`start_bound`] begins it for a cursor.
+//! The scans of a query's entries are offered the conditions that they may take over ([`med_planner::offer_core`]), each to the box of its
+//! own source, with the order and the limit that are wished of them ([`med_planner::wish_of`]); what the boxes answered makes the loops of
+//! each core ([`plan_loops`]). [`run_bound`] plans a query so, and runs it; [`start_bound`] begins it for a cursor.
+//!
+//! Writes to tables of wrappers in slots: the rows are read, all changes and faults are computed, and then the changes are staged and made
+//! together.
+//!
+//! Whether the rows that a query answered may be inserted: a test of their types at run time, for sources that are not trusted.
 #![tactic(auto)]
 
-mod accepting;
 mod agreeing;
 mod bound_running;
+mod fitting;
 pub mod law;
-mod offering;
 mod places;
+mod query_loops;
+mod reading;
 pub mod running;
 pub mod slots;
+mod staging;
+pub mod write_law;
+pub mod writing;
 
-pub use accepting::accept_query;
-pub use agreeing::agree_query;
 pub use bound_running::{run_bound, start_bound};
-pub use offering::offer_query;
+pub use fitting::fits;
+pub use query_loops::plan_loops;
 pub use running::Run;
 pub use slots::{bind_at, ledger_at, unbind_at};
+pub use writing::write;

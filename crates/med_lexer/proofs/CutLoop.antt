@@ -21,15 +21,6 @@ pub record CutLoop (text : List ℕ) (ts : List Lexeme) (rest : List ℕ) : Type
   pub short : length rest ≤ length text
   pub same : lex (suc (length text)) 0 text ≡ after_these ts (lex k (length text - length rest) rest)
 
-nothing_before : (o : Option (List Lexeme)) → o ≡ after_these [] o
-nothing_before None = refl
-nothing_before (Some ts) = refl
-
-pub cut_start : (text : List ℕ) → CutLoop text [] text
-cut_start text =
-    let e : length text - length text ≡ 0 = omega arith in
-    record { k = suc (length text); enough = omega arith; short = omega arith; same = nothing_before (lex (suc (length text)) 0 text) ∙ ap (λ n. after_these [] (lex (suc (length text)) n text)) (sym e) }
-
 lex_at : (k at : ℕ) (rest : List ℕ) (n : Next) → next rest ≡ n → lex (suc k) at rest ≡ continued at rest (lex k) n
 unfolding lex
 lex_at k at rest n h = rw h refl

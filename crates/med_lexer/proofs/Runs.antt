@@ -7,8 +7,8 @@ use Rattle.std.proofs.lemmas.Str.{IsCharBoundary-start, IsCharBoundary-after_asc
 use Rattle.std.proofs.lemmas.Bool.Decides.{nat_tests}
 use Rattle.med_lexer.specs.declared.bytes.Class.{Class}
 use Rattle.med_lexer.specs.declared.bytes.Class.TheVariants as k
-use Rattle.med_lexer.specs.Lexemes.{is_start, is_part, is_text, Every, Without}
-use Rattle.med_lexer.specs.Cutting.{in_class, IsAscii, run, behind}
+use Rattle.med_lexer.specs.Lexemes.{is_part, is_text, Every, Without}
+use Rattle.med_lexer.specs.Cutting.{in_class, IsAscii, run}
 
 pub run_is : (p : ℕ → Bool) (bs : List ℕ) (n : ℕ) → n ≤ length bs → ((i : ℕ) → i < n → p (get_or bs i 0) ≡ true) → (n < length bs → p (get_or bs n 0) ≡ false) → (take n bs, drop n bs) ≡ run p bs
 run_is p [] zero h all stops = refl
@@ -23,9 +23,6 @@ run_is p (b ∷ bs) (suc n) h all stops =
 
 pub digit_ascii : (b : ℕ) → is_ascii_digit b ≡ true → b < 128
 digit_ascii b h = grind (arith, nat_tests)
-
-pub start_ascii : (b : ℕ) → is_start b ≡ true → b < 128
-start_ascii b h = grind (arith, nat_tests)
 
 pub part_ascii : (b : ℕ) → is_part b ≡ true → b < 128
 part_ascii b h = grind (arith, nat_tests)
@@ -62,10 +59,6 @@ run_cut class bs n r = run_is (in_class class) bs n r.within r.all r.stops
 
 pub one_boundary : (bs : List ℕ) → IsUtf8 bs → 0 < length bs → get_or bs 0 0 < 128 → IsCharBoundary bs 1
 one_boundary bs u h a = IsCharBoundary-after_ascii bs 0 u h a
-
-pub behind_is : (bs : List ℕ) → 0 < length bs → drop 1 bs ≡ behind bs
-behind_is [] h = absurd (omega arith)
-behind_is (b ∷ bs) h = refl
 
 -- ---- what a run is
 

@@ -7,15 +7,15 @@ abbrev pub BeginsNoToken : List ℕ → Type 0
 BeginsNoToken rest = (s : Shape) (raw after : List ℕ) → rest ≡ raw ++ after → Spells s raw → ⊥
 
 -- behind the quote q, no other closes it, up to the end of the text or U+0000
-abbrev pub IsOpen : ℕ → List ℕ → Type 0
-IsOpen q bs = (w after : List ℕ) → bs ≡ doubled q w ++ q ∷ after → Every is_text w → Without (λ b. b == q) after → ⊥
+abbrev pub IsUnclosed : ℕ → List ℕ → Type 0
+IsUnclosed q bs = (w after : List ℕ) → bs ≡ doubled q w ++ q ∷ after → Every is_text w → Without (λ b. b == q) after → ⊥
 
 -- What stands where the next token of a text should begin, and why it is none.
 pub data IsFault : List ℕ → Type 0 where
   -- a character that is no blank and no quote, and begins no token
   bad_character : (b : ℕ) (bs : List ℕ) → is_blank b ≡ false → (b ≡ 34 → ⊥) → (b ≡ 39 → ⊥) → BeginsNoToken (b ∷ bs) → IsFault (b ∷ bs)
   -- a quote that is not closed
-  open_quote : (q : ℕ) (bs : List ℕ) → (q ≡ 34) ⊎ (q ≡ 39) → IsOpen q bs → IsFault (q ∷ bs)
+  open_quote : (q : ℕ) (bs : List ℕ) → (q ≡ 34) ⊎ (q ≡ 39) → IsUnclosed q bs → IsFault (q ∷ bs)
   -- a quoted name with nothing in it
   empty_name : (after : List ℕ) → Without (λ b. b == 34) after → IsFault (34 ∷ 34 ∷ after)
   -- a number directly before a letter or '_'

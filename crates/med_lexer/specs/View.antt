@@ -1,6 +1,6 @@
 -- A token without where its text lies in memory, and what `tokens` answers.
 use Rattle.std.specs.Prelude.{ℕ, List, map, Result, Ok, Err, Vec}
-use Rattle.std.specs.String.{string_bytes}
+use Rattle.std.specs.Cow.{cow_str_bytes}
 use Rattle.med_lexer.specs.declared.TokenKind.{TokenKind}
 use Rattle.med_lexer.specs.declared.TokenKind.TheVariants as k
 use Rattle.med_lexer.specs.declared.Token.{Token}
@@ -9,10 +9,10 @@ use Rattle.med_lexer.specs.declared.error.LexFault.TheVariants.{NoMemory, BadTok
 use Rattle.med_lexer.specs.Lexemes.{Shape, word, quoted, literal, number, mark, Lexeme, Lexes}
 
 abbrev pub shape_of : TokenKind → Shape
-shape_of (k.Word s) = word (string_bytes s)
-shape_of (k.Quoted s) = quoted (string_bytes s)
-shape_of (k.Literal s) = literal (string_bytes s)
-shape_of (k.Number s) = number (string_bytes s)
+shape_of (k.Word s) = word (cow_str_bytes s)
+shape_of (k.Quoted s) = quoted (cow_str_bytes s)
+shape_of (k.Literal s) = literal (cow_str_bytes s)
+shape_of (k.Number s) = number s.now
 shape_of (k.Mark m) = mark m
 
 abbrev pub view : Token → Lexeme

@@ -1,6 +1,7 @@
 //! Runs of bytes at the front of a text.
 
-ghost use Rattle.std.specs.Prelude.{◌≡◌, ℕ, ◌≤◌, ◌<◌, length, slice_index, true, false, option_map};
+ghost use Rattle.std.specs.Prelude.{◌≡◌, ◌↔◌, ℕ, ◌≤◌, ◌<◌, IsTrue, length, slice_index, true, false, option_map};
+ghost use Rattle.std.specs.Str.{str_to_ascii_lowercase};
 ghost use Rattle.med_lexer.specs.Lexemes as spec;
 ghost use Rattle.med_lexer.specs.Cutting as cutting;
 
@@ -98,4 +99,11 @@ pub fn first(bytes: &[u8]) -> u8
     ensures { result ≡ cutting.first bytes.now }
 {
     if bytes.is_empty() { 0 } else { bytes[0] }
+}
+
+/// Does the text stay as it is in lower case?
+pub fn is_folded(text: &str) -> bool
+    ensures { IsTrue result ↔ (str_to_ascii_lowercase text.now ≡ text.now) }
+{
+    text.as_bytes().iter().all(|b| b.to_ascii_lowercase() == *b)
 }

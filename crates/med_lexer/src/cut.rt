@@ -1,18 +1,21 @@
 //! The tokens of a text.
 
-ghost use Rattle.std.specs.Prelude.{length, suc};
+ghost use Rattle.std.specs.Prelude.{◌≡◌, IfOk, IsOkAnd, length, suc};
+ghost use Rattle.std.specs.Cow.{IsBorrowedStr, cow_str_bytes};
+ghost use Rattle.std.specs.Str.{str_to_ascii_lowercase};
 ghost use Rattle.med_lexer.specs.Lexemes as spec;
 ghost use Rattle.med_lexer.specs.Cutting as cutting;
 ghost use Rattle.med_lexer.specs.View.{views, Tokens};
 ghost use Rattle.med_lexer.specs.Steps.{Steps, GivesLexed};
 ghost use Rattle.std.specs.Char.{is_ascii_digit};
 
-use crate::bytes::{Class, behind, cut_run, first, is_blank, is_start};
+use crate::bytes::{Class, behind, cut_run, first, is_blank, is_folded, is_start};
 use crate::error::LexFault;
 use crate::marks::{double, single};
 use crate::quotes::unquoted;
 use crate::{Token, TokenKind};
-use std::alloc::Global;
+use std::alloc::{AllocError, Global};
+use std::borrow::CowStr;
 
 /// What stands at the front of a text.
 #[derive(Debug, Drop)]
@@ -22,7 +25,19 @@ enum Step<'a> {
     /// a blank, and the text behind it
     Blank(&'a str),
     /// a token, and the text behind it
-    Cut(TokenKind, &'a str),
+    Cut(TokenKind<'a>, &'a str),
+}
+
+/// The word in lower case, borrowed where it stands so.
+fn folded(alloc: Global, raw: &str) -> Result<CowStr<'_, Global>, AllocError>
+    ensures same { IfOk result (λ word. cow_str_bytes word ≡ str_to_ascii_lowercase raw.now) }
+    ensures lent { str_to_ascii_lowercase raw.now ≡ raw.now → IsOkAnd result IsBorrowedStr }
+{
+    if is_folded(raw) {
+        Ok(CowStr::Borrowed(raw))
+    } else {
+        Ok(CowStr::Owned(raw.to_ascii_lowercase(alloc)?))
+    }
 }
 
 /// The word at the front of a text.
@@ -30,11 +45,11 @@ fn word(alloc: Global, text: &str) -> Result<Step<'_>, LexFault>
     ensures { Steps result (cutting.word_next (cutting.run spec.is_part text.now)) }
 {
     let (raw, after) = cut_run(text, Class::Part);
-    Ok(Step::Cut(TokenKind::Word(raw.to_ascii_lowercase(alloc)?), after))
+    Ok(Step::Cut(TokenKind::Word(folded(alloc, raw)?), after))
 }
 
 /// The number at the front of a text.
-fn number(alloc: Global, text: &str) -> Result<Step<'_>, LexFault>
+fn number(text: &str) -> Result<Step<'_>, LexFault>
     ensures { Steps result (cutting.number_next (cutting.run is_ascii_digit text.now)) }
 {
     let (digits, after) = cut_run(text, Class::Digit);
@@ -42,7 +57,7 @@ fn number(alloc: Global, text: &str) -> Result<Step<'_>, LexFault>
     if !bytes.is_empty() && is_start(bytes[0]) {
         return Err(LexFault::BadToken);
     }
-    Ok(Step::Cut(TokenKind::Number(String::from_str(alloc, digits)?), after))
+    Ok(Step::Cut(TokenKind::Number(digits), after))
 }
 
 /// The quoted name of which the first quote stands before the text.
@@ -103,7 +118,7 @@ fn next(alloc: Global, text: &str) -> Result<Step<'_>, LexFault>
         return word(alloc, text);
     }
     if b.is_ascii_digit() {
-        return number(alloc, text);
+        return number(text);
     }
     if b >= 128 {
         return Err(LexFault::BadToken);
@@ -123,7 +138,7 @@ fn next(alloc: Global, text: &str) -> Result<Step<'_>, LexFault>
 }
 
 /// The tokens of the text, one after another.
-fn cut(alloc: Global, text: &str) -> Result<Vec<Token>, LexFault>
+fn cut(alloc: Global, text: &str) -> Result<Vec<Token<'_>>, LexFault>
     ensures { GivesLexed (λ v. views v.items) result (cutting.lex (suc (length text.now)) 0 text.now) }
 {
     let mut out = Vec::new(alloc);
@@ -142,11 +157,11 @@ fn cut(alloc: Global, text: &str) -> Result<Vec<Token>, LexFault>
     }
 }
 
-/// The tokens of a text, each the longest at its place, in the order of the text.
+/// The tokens of a text, each the longest at its place, in the order of the text. They borrow from it what stands there as they say it.
 ///
 /// `BadToken` says that the text has no list of tokens. It holds a character outside quotes that begins no token, U+0000, an empty
 /// quoted name, a quote that is not closed, or a number directly before a letter or `_`.
-pub fn tokens(alloc: Global, text: &str) -> Result<Vec<Token>, LexFault>
+pub fn tokens(alloc: Global, text: &str) -> Result<Vec<Token<'_>>, LexFault>
     // the one list of the text's tokens, or that it has none
     ensures { Tokens result text.now }
 {

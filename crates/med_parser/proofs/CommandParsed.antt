@@ -7,21 +7,21 @@ use Rattle.med_value.specs.declared.cause.Cause.TheVariants as causes
 use Rattle.med_lexer.specs.declared.Token.{Token}
 use Rattle.med_lexer.specs.Lexemes.{Shape, Lexeme, Lexes}
 use Rattle.med_lexer.specs.View.{views}
-use Rattle.expr_grammar.specs.Shapes.{shapes, IsLongName}
-use Rattle.expr_grammar.specs.View.{shapes_of, LexesOnly, cause_of}
-use Rattle.expr_grammar.specs.declared.fault.ParseFault.{ParseFault}
-use Rattle.expr_grammar.specs.declared.fault.ParseFault.TheVariants as parse_faults
+use Rattle.med_syntax.specs.Shapes.{shapes, IsLongName}
+use Rattle.med_syntax.specs.View.{shapes_of, LexesOnly, cause_of}
+use Rattle.med_syntax.specs.declared.fault.ParseFault.{ParseFault}
+use Rattle.med_syntax.specs.declared.fault.ParseFault.TheVariants as parse_faults
 use Rattle.med_syntax.specs.declared.statement.Statement.{Statement}
-use Rattle.expr_grammar.specs.declared.refusal.ReadFault.{ReadFault}
-use Rattle.expr_grammar.specs.declared.refusal.ReadFault.TheVariants as faults
-use Rattle.expr_grammar.specs.declared.refusal.Refusal.TheVariants.{Syntax, TooHigh}
-use Rattle.expr_grammar.specs.ExprTerminals.{AreReadable}
-use Rattle.query_grammar.specs.declared.query_symbols.Place.TheVariants.{Before}
-use Rattle.query_grammar.specs.QueryTerminals.{words_at}
-use Rattle.expr_grammar.specs.ExprAnswers.{ReadsAs, cause_of_read}
+use Rattle.med_syntax.specs.declared.refusal.ReadFault.{ReadFault}
+use Rattle.med_syntax.specs.declared.refusal.ReadFault.TheVariants as faults
+use Rattle.med_syntax.specs.declared.refusal.Refusal.TheVariants.{Syntax, TooHigh}
+use Rattle.med_syntax.specs.ExprTerminals.{AreReadable}
+use Rattle.med_syntax.specs.declared.query_symbols.Place.TheVariants.{Before}
+use Rattle.med_syntax.specs.QueryTerminals.{words_at}
+use Rattle.med_syntax.specs.ExprAnswers.{ReadsAs, cause_of_read}
 use Rattle.med_syntax.specs.QueryTree.{StatementTree, statement_height}
-use Rattle.query_grammar.specs.QueryGrammar.{IsStatement, HasStatement}
-use Rattle.query_grammar.specs.QueryCauses.{statement_in_range}
+use Rattle.med_syntax.specs.QueryGrammar.{IsStatement, HasStatement}
+use Rattle.med_syntax.specs.QueryCauses.{statement_in_range}
 use Rattle.sql_print.specs.QueryPrinting.{printed_statement}
 use Rattle.ddl_parser.specs.DdlPrinting.{printed_ddl}
 use Rattle.med_parser.specs.CommandPrinting.{printed_command}
@@ -38,15 +38,15 @@ use Rattle.sql_print.specs.WritePrinting.{printed_write}
 use Rattle.med_syntax.specs.CursorTree.{CursorTree}
 use Rattle.med_syntax.specs.CursorView.{cursor_tree}
 use Rattle.med_syntax.specs.declared.cursor.CursorStatement.{CursorStatement}
-use Rattle.cursor_parser.specs.CursorGrammar.{IsCursor, HasCursor}
-use Rattle.cursor_parser.specs.CursorCauses.{cursor_in_range}
-use Rattle.cursor_parser.specs.CursorCauses as cursor_causes
-use Rattle.cursor_parser.proofs.CursorRead as cursor
+use Rattle.write_parser.specs.CursorGrammar.{IsCursor, HasCursor}
+use Rattle.write_parser.specs.CursorCauses.{cursor_in_range}
+use Rattle.write_parser.specs.CursorCauses as cursor_causes
+use Rattle.write_parser.proofs.CursorRead as cursor
 use Rattle.sql_print.specs.CursorPrinting.{printed_cursor}
 use Rattle.med_parser.specs.declared.command.Command.{Command}
 use Rattle.med_parser.specs.declared.command.Command.TheVariants as commands
 use Rattle.med_syntax.specs.declared.ddl.Ddl.{Ddl}
-use Rattle.ddl_parser.specs.DdlGrammar.{IsDdl, HasDdl}
+use Rattle.ddl_parser.specs.DdlGrammar.{HasDdl}
 use Rattle.med_parser.specs.declared.command_kind.CommandKind.{CommandKind}
 use Rattle.med_parser.specs.declared.command_kind.CommandKind.TheVariants as kinds
 use Rattle.med_parser.specs.CommandKinds.{kind_of_tree}
@@ -55,11 +55,11 @@ use Rattle.med_parser.proofs.CommandBegins.{one_kind}
 use Rattle.med_parser.specs.CommandCauses.{command_in_range, is_fetch_zero_command, TokenCauses, SyntaxCauses}
 use Rattle.query_reader.specs.QueryReading.{bounded_line}
 use Rattle.med_syntax.specs.QueryView.{statement_tree}
-use Rattle.expr_grammar.proofs.TokenShapes.{OneList, shapes_are}
-use Rattle.expr_grammar.proofs.TokenNumbers.{small_at}
+use Rattle.med_syntax.proofs.TokenShapes.{OneList, shapes_are}
+use Rattle.med_syntax.proofs.TokenNumbers.{small_at}
 use Rattle.query_reader.proofs.QueryComplete.{one_line}
 use Rattle.ddl_parser.proofs.DdlComplete as ddl
-use Rattle.query_grammar.proofs.QueryTerminals.{to_terminals, of_terminals}
+use Rattle.med_syntax.proofs.QueryTerminals.{to_terminals, of_terminals}
 use Rattle.query_reader.proofs.QueryWeighing.{words_weigh, bounded_sound, bounded_out, bounded_told}
 
 -- ---- no tokens are statements of two kinds
@@ -111,12 +111,6 @@ no_cursor ss only none (on_rows w) x = absurd (let no : kinds.Rows ≡ kinds.Cur
 no_cursor ss only none (on_cursors e) x = none e x
 no_cursor ss only none (on_objects d) x = absurd (let no : kinds.Objects ≡ kinds.Cursor = only (on_objects d) x in cc)
 
-no_object : (ss : List Shape) → OnlyOf ss kinds.Objects → ((d : DdlTree) → IsDdl ss d → ⊥) → (c : CommandTree) → IsCommand ss c → ⊥
-no_object ss only none (on_data s) x = absurd (let no : kinds.Data ≡ kinds.Objects = only (on_data s) x in cc)
-no_object ss only none (on_rows w) x = absurd (let no : kinds.Rows ≡ kinds.Objects = only (on_rows w) x in cc)
-no_object ss only none (on_cursors e) x = absurd (let no : kinds.Cursor ≡ kinds.Objects = only (on_cursors e) x in cc)
-no_object ss only none (on_objects d) x = none d x
-
 -- the reader of statements on data refused the tokens so
 abbrev QueryRefused : List Shape → ReadFault → Type 0
 QueryRefused ss f = ReadsAs statement_tree (Err f) (bounded_line (words_at (Before false) false ss))
@@ -128,9 +122,6 @@ no_data ss h s x = bounded_out (words_at (Before false) false ss) h s (to_termin
 -- what a reader's fault tells of the tokens
 abbrev pub Told : List Shape → ReadFault → Type 0
 Told ss f = (f ≡ faults.NoMemory) ⊎ TokenCauses ss (cause_of_read f)
-
-pub told_objects : (ss : List Shape) → OnlyOf ss kinds.Objects → ((d : DdlTree) → IsDdl ss d → ⊥) → Told ss (faults.Refused Syntax)
-told_objects ss only none = inr (no_object ss only none)
 
 pub told_rows : (ss : List Shape) (f : ReadFault) → OnlyOf ss kinds.Rows → Refuses ss f → Told ss f
 told_rows ss faults.NoMemory only h = inl refl

@@ -2,11 +2,11 @@
 -- catalogue.
 use Rattle.std.specs.Prelude.{ℕ, List}
 use Rattle.med_lexer.specs.Lexemes.{Shape, Lexeme, Lexes}
-use Rattle.expr_grammar.specs.Shapes.{shapes}
+use Rattle.med_syntax.specs.Shapes.{shapes}
 use Rattle.med_parser.specs.CommandTree.{CommandTree, on_data, on_rows, on_cursors, on_objects}
-use Rattle.query_grammar.specs.QueryGrammar.{IsStatement}
+use Rattle.med_syntax.specs.QueryGrammar.{IsStatement}
 use Rattle.write_parser.specs.WriteGrammar.{IsWrite}
-use Rattle.cursor_parser.specs.CursorGrammar.{IsCursor}
+use Rattle.write_parser.specs.CursorGrammar.{IsCursor}
 use Rattle.ddl_parser.specs.DdlGrammar.{IsDdl}
 
 -- The tokens are a line of the grammar with this tree.

@@ -1,7 +1,7 @@
 -- The kinds of commands, and the words that each of them begins with.
 use Rattle.std.specs.Prelude.{ℕ, cond, List, [], ◌∷◌, codes}
 use Rattle.med_lexer.specs.Lexemes.{Shape, word}
-use Rattle.query_grammar.specs.QueryTerminals.{is_one_of}
+use Rattle.med_syntax.specs.QueryTerminals.{is_one_of}
 use Rattle.med_parser.specs.declared.command_kind.CommandKind.{CommandKind}
 use Rattle.med_parser.specs.declared.command_kind.CommandKind.TheVariants as kinds
 use Rattle.med_parser.specs.CommandTree.{CommandTree, on_data, on_rows, on_cursors, on_objects}

@@ -1,12 +1,12 @@
-pub use Rattle.query_grammar.specs.QueryTerminals
-pub use Rattle.query_grammar.specs.QueryGrammar
-pub use Rattle.query_grammar.specs.QueryCauses
+pub use Rattle.med_syntax.specs.QueryTerminals
+pub use Rattle.med_syntax.specs.QueryGrammar
+pub use Rattle.med_syntax.specs.QueryCauses
 pub use Rattle.sql_print.specs.QueryPrinting
 pub use Rattle.write_parser.specs.WriteGrammar
 pub use Rattle.write_parser.specs.WriteCauses
 pub use Rattle.sql_print.specs.WritePrinting
-pub use Rattle.cursor_parser.specs.CursorGrammar
-pub use Rattle.cursor_parser.specs.CursorCauses
+pub use Rattle.write_parser.specs.CursorGrammar
+pub use Rattle.write_parser.specs.CursorCauses
 pub use Rattle.sql_print.specs.CursorPrinting
 pub use Rattle.ddl_parser.specs.DdlGrammar
 pub use Rattle.ddl_parser.specs.DdlPrinting

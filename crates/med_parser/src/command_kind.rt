@@ -1,6 +1,6 @@
 //! Of which kind tokens can be, by their first word.
 
-ghost use Rattle.expr_grammar.specs.View.{shapes_of};
+ghost use Rattle.med_syntax.specs.View.{shapes_of};
 ghost use Rattle.med_lexer.specs.View.{shape_of};
 ghost use Rattle.med_parser.specs.CommandGrammar.{IsCommand};
 ghost use Rattle.med_parser.specs.CommandKinds as kinds;
@@ -8,7 +8,8 @@ ghost use Rattle.med_parser.specs.CommandKinds.{kind_of_tree};
 ghost use Rattle.med_parser.specs.CommandTree.{CommandTree};
 ghost use Rattle.std.specs.Prelude.{◌≡◌};
 
-use med_lexer::{Token, TokenKind};
+use med_lexer::TokenKind;
+use med_syntax::token_list::Tokens;
 
 /// A kind of command: each has a reader of its own.
 #[derive(Clone, Copy, Debug, Drop)]
@@ -39,17 +40,17 @@ fn kind_of_word(word: &str) -> CommandKind
 }
 
 /// The kind of the commands that begin with the token.
-fn kind_of_token(kind: &TokenKind) -> CommandKind
+fn kind_of_token(kind: &TokenKind<'_>) -> CommandKind
     ensures { result ≡ kinds.kind_of_shape (shape_of kind.now) }
 {
     match kind {
-        TokenKind::Word(word) => kind_of_word(word),
+        TokenKind::Word(word) => kind_of_word(word.as_str()),
         _ => CommandKind::Data,
     }
 }
 
 /// The one kind of which tokens can be a command.
-pub fn kind_of(tokens: &[Token]) -> CommandKind
+pub fn kind_of(tokens: Tokens<'_>) -> CommandKind
     // No tree of another kind has these tokens.
     ensures { (c : CommandTree) → IsCommand (shapes_of tokens.now) c → kind_of_tree c ≡ result }
 {

@@ -6,8 +6,8 @@ ghost use Rattle.med_parser.specs.CommandTree.{command_tree};
 ghost use Rattle.std.specs.Prelude.{◌≡◌};
 
 use crate::command::Command;
-use cursor_parser::is_fetch_zero;
 use sql_print::{is_cursor_in_range, is_statement_in_range, is_write_in_range};
+use write_parser::is_fetch_zero;
 
 /// Whether each number of the command is in range; a statement on objects has none.
 pub fn is_command_in_range(command: &Command) -> bool

@@ -1,9 +1,9 @@
 //! Text to commands.
 
-ghost use Rattle.expr_grammar.specs.ExprAnswers.{cause_of_read};
-ghost use Rattle.expr_grammar.specs.ExprTerminals.{AreReadable};
-ghost use Rattle.expr_grammar.specs.View.{shapes_of};
-ghost use Rattle.expr_grammar.specs.declared.refusal.ReadFault.TheVariants as faults;
+ghost use Rattle.med_syntax.specs.ExprAnswers.{cause_of_read};
+ghost use Rattle.med_syntax.specs.ExprTerminals.{AreReadable};
+ghost use Rattle.med_syntax.specs.View.{shapes_of};
+ghost use Rattle.med_syntax.specs.declared.refusal.ReadFault.TheVariants as faults;
 ghost use Rattle.med_lexer.specs.Printing.{AreShapes};
 ghost use Rattle.med_parser.specs.CommandCauses.{SyntaxCauses, TokenCauses};
 ghost use Rattle.med_parser.specs.CommandGrammar.{HasCommand, IsCommand};
@@ -17,20 +17,19 @@ ghost use Rattle.std.specs.Prelude.{◌≡◌, ◌≤◌, ◌⊎◌, IfErr, IfOk
 use crate::command::Command;
 use crate::command_kind::{CommandKind, kind_of};
 use crate::command_range::{is_command_in_range, is_fetch_zero_command};
-use cursor_parser::cursor_of;
 use ddl_parser::ddl_of;
-use expr_grammar::ParseFault;
-use expr_grammar::expr_symbols::has_unreadable;
-use expr_grammar::refusal::{ReadFault, Refusal};
-use expr_grammar::token_list::{has_long_name, tokens_of};
-use med_lexer::{Token, tokens_can_be_printed};
+use med_lexer::tokens_can_be_printed;
+use med_syntax::ParseFault;
+use med_syntax::expr_symbols::has_unreadable;
+use med_syntax::refusal::{ReadFault, Refusal};
+use med_syntax::token_list::{Tokens, has_long_name, tokens_of};
 use med_value::Cause;
 use query_reader::statement_of;
 use std::alloc::Global;
-use write_parser::write_of;
+use write_parser::{cursor_of, write_of};
 
 /// The statement on objects that all of the tokens are.
-fn objects_of(alloc: Global, tokens: &[Token]) -> Result<Command, ReadFault>
+fn objects_of(alloc: Global, tokens: Tokens<'_>) -> Result<Command, ReadFault>
     requires { (c : CommandTree) → IsCommand (shapes_of tokens.now) c → kind_of_tree c ≡ kinds.Objects }
     ensures found { IfOk result (λ c. IsCommand (shapes_of tokens.now) (command_tree c)) }
     ensures low { IfOk result (λ c. command_height (command_tree c) ≤ height_limit) }
@@ -44,7 +43,7 @@ fn objects_of(alloc: Global, tokens: &[Token]) -> Result<Command, ReadFault>
 }
 
 /// The command that all of the tokens are, read by the reader of the one kind that they can be of: the one door for statements.
-fn command_of(alloc: Global, tokens: &[Token]) -> Result<Command, ReadFault>
+fn command_of(alloc: Global, tokens: Tokens<'_>) -> Result<Command, ReadFault>
     requires { AreReadable (shapes_of tokens.now) }
     ensures found { IfOk result (λ c. IsCommand (shapes_of tokens.now) (command_tree c)) }
     ensures low { IfOk result (λ c. command_height (command_tree c) ≤ height_limit) }
@@ -68,7 +67,7 @@ fn command_of(alloc: Global, tokens: &[Token]) -> Result<Command, ReadFault>
 }
 
 /// The command that all of the tokens are, or why it is refused.
-fn checked_command(alloc: Global, tokens: &[Token]) -> Result<Command, Cause>
+fn checked_command(alloc: Global, tokens: Tokens<'_>) -> Result<Command, Cause>
     requires { AreShapes (shapes_of tokens.now) }
     ensures found { IfOk result (λ c. IsCommand (shapes_of tokens.now) (command_tree c)) }
     ensures clear { OnOk result ((c : Cause) → TokenCauses (shapes_of tokens.now) c → ⊥) }

@@ -45,9 +45,6 @@ mutual
   all_moved_risk f none = refl
   all_moved_risk f (part t ts) = two (λ (p q : Bool). p || q) (moved_risk f t) (all_moved_risk f ts)
 
-is_safe : Tree → Bool
-is_safe t = not (is_risky_tree t)
-
 shifted_safe : (base : ℕ) (ts : List Tree) → AllSafe ts → AllSafe (map (shifted base) ts)
 shifted_safe base [] h = refl
 shifted_safe base (t ∷ ts) h =

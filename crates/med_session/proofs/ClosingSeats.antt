@@ -1,19 +1,18 @@
 -- Sessions that are closed one after the other: what is left to be closed.
-use Rattle.std.proofs.Common.{◌≡◌, ℕ, zero, suc, List, [], ◌∷◌, ◌++◌, Option, Some, None, Contains, slice_get, slice_set, slice_index_or, map, flat_map, option_map, length, ◌<◌, replicate, inl, inr, ◌⊎◌, refl, ap, sym, ◌∙◌, subst, append_assoc, arith}
+use Rattle.std.proofs.Common.{◌≡◌, ℕ, zero, suc, List, [], ◌∷◌, ◌++◌, Option, Some, None, Contains, slice_get, slice_set, slice_index_or, option_map, length, ◌<◌, replicate, inl, inr, ◌⊎◌, refl, ap, sym, ◌∙◌, subst, append_assoc, arith}
 use Rattle.std.proofs.lemmas.List.Elements.{All-append, Contains-append_left, Contains-append_right, Contains-append_cases}
 use Rattle.std.proofs.lemmas.Option.{slice_get-map, slice_get-get_or}
 use Rattle.std.proofs.lemmas.List.{map-set}
-use Rattle.open_cursors.specs.declared.cursors.Seat.{Seat}
+use Rattle.med_world.specs.declared.cursors.Seat.{Seat}
 use Rattle.fdw_api.specs.State.{BoxState}
 use Rattle.med_exec.specs.Running.{Held, ServesRun, none_held}
 use Rattle.med_exec.specs.Rests.{held, IsHeld}
 use Rattle.med_exec.specs.Leaving.{AreApart}
-use Rattle.med_exec.specs.declared.running.Run.{Run}
 use Rattle.med_exec.proofs.Leaving.{with_held, serves_beside, serves_before}
-use Rattle.open_cursors.specs.Open.{Opened, Seated, seated, seats_shown, held_by, AreHeld, AreOwn, seat_cursors, all_cursors}
-use Rattle.open_cursors.proofs.Closing.{StaysHeld, apart_none}
+use Rattle.med_world.specs.Open.{Opened, Seated, seated, seats_shown, held_by, AreHeld, AreOwn, seat_cursors, all_cursors}
+use Rattle.med_world.proofs.Closing.{StaysHeld, apart_none}
 use Rattle.med_world.proofs.Lists.{some_same}
-use Rattle.med_world.proofs.Named.{at_place}
+use Rattle.med_world.proofs.NamedTables.{at_place}
 use Rattle.med_world.proofs.Scans.{own_both, among}
 
 held_join : (xs ys : List Opened) (slot : ℕ) → held_by (xs ++ ys) slot ≡ held_by xs slot ++ held_by ys slot

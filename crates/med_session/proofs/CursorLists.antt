@@ -8,9 +8,9 @@ use Rattle.std.proofs.lemmas.Map.Keys.{IsDistinct-head, IsDistinct-tail}
 use Rattle.std.proofs.lemmas.Option.{slice_get-map, slice_get-get_or}
 use Rattle.med_syntax.specs.Tree.{Name}
 use Rattle.med_exec.specs.declared.running.Run.{Run}
-use Rattle.open_cursors.specs.declared.cursors.Seat.{Seat}
-use Rattle.open_cursors.specs.declared.cursors.OpenCursor.{OpenCursor}
-use Rattle.open_cursors.specs.Open.{Opened, opened, seats_shown, seated, AreNamedApart, has_name, opened_named, without_named, with_run}
+use Rattle.med_world.specs.declared.cursors.Seat.{Seat}
+use Rattle.med_world.specs.declared.cursors.OpenCursor.{OpenCursor}
+use Rattle.med_world.specs.Open.{Opened, opened, seats_shown, seated, AreNamedApart, has_name, opened_named, without_named, with_run}
 use Rattle.med_session.proofs.AddingLists.{within_some}
 use Rattle.med_world.proofs.Lists.{each_at, same_bytes, bytes_same}
 

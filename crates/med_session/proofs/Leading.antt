@@ -15,11 +15,11 @@ use Rattle.sql_meaning.specs.Replies.{Reply, answered, refused, reply_text}
 use Rattle.sql_meaning.specs.Steps.{Trouble, TakesMemory, TreeDoes, Does, Step, is_refused, is_done, lacks_memory, fetch_lacks_memory, source_fails, numbers_end, shared_shows}
 use Rattle.med_world.specs.Engine.{Shown, Agrees, TreeAsks, Leads, IsAnswered}
 use Rattle.med_world.specs.Laws.{IsRead}
-use Rattle.med_select.specs.declared.selecting.RowSet.{RowSet}
-use Rattle.session_replies.specs.Outcomes.{HasRows, TellsReply, reply_of}
+use Rattle.med_statements.specs.declared.selecting.RowSet.{RowSet}
+use Rattle.med_statements.specs.Outcomes.{RepliesRows, TellsReply, reply_of}
 use Rattle.med_session.specs.Cursors.{IfFetched}
-use Rattle.session_replies.specs.declared.replies.Outcome.{Outcome}
-use Rattle.session_replies.specs.declared.replies.Outcome.TheVariants as outcome
+use Rattle.med_statements.specs.declared.replies.Outcome.{Outcome}
+use Rattle.med_statements.specs.declared.replies.Outcome.TheVariants as outcome
 
 -- ---- want of memory in place of rows
 
@@ -76,12 +76,12 @@ memory_told e new sid request names rows h = record {
 
 -- ---- what was told, and what was not
 
-pub not_told : (sid : ℕ) (meant : Reply) (b : Bool) (old out : List ℕ) → TellsReply sid meant b old out → b ≡ false → HasRows meant × (out ≡ old ++ reply_text sid (refused OutOfMemory))
+pub not_told : (sid : ℕ) (meant : Reply) (b : Bool) (old out : List ℕ) → TellsReply sid meant b old out → b ≡ false → RepliesRows meant × (out ≡ old ++ reply_text sid (refused OutOfMemory))
 not_told sid meant true old out t e = absurd cc
 not_told sid meant false old out t e = t
 
 -- of a query that is
-pub rows_untold : (o : Outcome) → ((name : String Global) (set : RowSet) → o ≡ outcome.Fetched name set → ⊥) → HasRows (reply_of o) → (e new : Shown) (sid : ℕ) (request : AskedLine) → Leads e sid request (reply_of o) new → Leads e sid request (refused OutOfMemory) new
+pub rows_untold : (o : Outcome) → ((name : String Global) (set : RowSet) → o ≡ outcome.Fetched name set → ⊥) → RepliesRows (reply_of o) → (e new : Shown) (sid : ℕ) (request : AskedLine) → Leads e sid request (reply_of o) new → Leads e sid request (refused OutOfMemory) new
 rows_untold outcome.Opened other has e new sid request h = absurd has
 rows_untold outcome.Closed other has e new sid request h = absurd has
 rows_untold (outcome.Changed d) other has e new sid request h = absurd has

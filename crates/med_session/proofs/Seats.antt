@@ -1,13 +1,13 @@
 -- Seats by the numbers of their sessions: taken out, put in, and put back.
-use Rattle.std.proofs.Common.{◌≡◌, ℕ, ◌-◌, zero, suc, List, [], ◌∷◌, Option, Some, None, IsSome, Contains, is_some, option_map, false, length, slice_get, slice_set, refl, ap, sym, ◌∙◌, subst}
+use Rattle.std.proofs.Common.{◌≡◌, ℕ, ◌-◌, zero, suc, List, [], ◌∷◌, Option, Some, None, Contains, is_some, option_map, false, length, slice_get, slice_set, refl, ap, sym, ◌∙◌, subst}
 use Rattle.std.proofs.lemmas.List.{length-map, length-set}
 use Rattle.med_syntax.specs.CursorTree.{declare}
 use Rattle.med_syntax.specs.QueryTree.{StatementTree, select}
 use Rattle.med_binder.specs.Looked.{query_in}
-use Rattle.open_cursors.specs.declared.cursors.Seat.{Seat}
+use Rattle.med_world.specs.declared.cursors.Seat.{Seat}
 use Rattle.fdw_api.specs.State.{BoxState}
 use Rattle.med_exec.specs.Rests.{IsRunning}
-use Rattle.open_cursors.specs.Open.{Opened, Seated, seated, seats_shown}
+use Rattle.med_world.specs.Open.{Opened, Seated, seated, seats_shown}
 use Rattle.med_parser.specs.CommandTree.{CommandTree, on_cursors}
 use Rattle.med_syntax.specs.Tree.{Name}
 use Rattle.med_value.specs.Limits.{session_count}
@@ -78,14 +78,6 @@ set_none (x ∷ xs) (suc k) e = ap (λ l. x ∷ l) (set_none xs k e)
 -- a session without a seat has no user
 pub no_user : (seats : List (Option Seated)) (sid : ℕ) → seat_of seats sid ≡ None → is_some (user_of seats sid) ≡ false
 no_user seats sid e = ap (λ (o : Option Seated). is_some (option_map (λ (s : Seated). s.user) o)) e
-
--- one with a user has a seat
-pub has_seat : (seats : List (Option Seated)) (sid : ℕ) (user : Name) → Some user ≡ user_of seats sid → IsSome (seat_of seats sid)
-has_seat seats sid user e = go (seat_of seats sid) e
-  where
-    go : (o : Option Seated) → Some user ≡ option_map (λ (s : Seated). s.user) o → IsSome o
-    go None is = absurd cc
-    go (Some s) is = refl
 
 -- a seat that was taken out, and its cursors closed
 pub vacated : (e : Shown) (sid : ℕ) (left : List (Option Seated)) (boxes : List (Option BoxState)) → left ≡ slice_set e.seats (sid - 1) None → record e { seats = left; boxes = boxes } ≡ with_boxes (with_seats e (slice_set e.seats (sid - 1) None)) boxes

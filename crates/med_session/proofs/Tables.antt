@@ -28,11 +28,11 @@ use Rattle.med_world.proofs.Faring.{set_this, same_box}
 use Rattle.med_world.proofs.ScansChanged.{fresh_scan}
 use Rattle.med_world.proofs.Lists.{some_same, push_last, one_place, same_bytes, other_bytes}
 use Rattle.med_world.specs.Adding.{HasSource}
-use Rattle.med_world.proofs.Named.{map_place, found_place, at_place, place_of}
+use Rattle.med_world.proofs.NamedTables.{map_place, found_place, at_place, place_of}
 use Rattle.med_session.specs.declared.sources.NamedSource.{NamedSource}
 use Rattle.med_session.specs.Shows.{label}
-use Rattle.med_select.specs.Ready.{AreReady}
-use Rattle.med_rows.specs.Ready.{IsReady}
+use Rattle.med_statements.specs.Ready.{AreReady}
+use Rattle.med_statements.specs.ReadyWrites.{IsReady}
 use Rattle.med_session.proofs.Seats.{set_twice}
 
 -- ---- sources by their names

@@ -1,5 +1,5 @@
 -- A FETCH that gave rows, which may not be told.
-use Rattle.std.proofs.Common.{◌≡◌, ℕ, zero, suc, ◌+◌, ◌-◌, ◌^◌, ◌<◌, ◌≤◌, ◌⊎◌, inl, inr, true, false, arith, List, Option, Some, None, is_some, slice_set, refl, ap, sym, ◌∙◌, subst}
+use Rattle.std.proofs.Common.{◌≡◌, ℕ, zero, suc, ◌-◌, true, false, arith, List, Option, Some, None, is_some, slice_set, refl, ap, sym, ◌∙◌, subst}
 use Rattle.med_value.specs.Datum.{Tuple}
 use Rattle.med_value.specs.declared.cause.Cause.{Cause}
 use Rattle.med_value.specs.declared.cause.Cause.TheVariants.{OutOfMemory, InvalidCursorName, FetchZero}
@@ -9,13 +9,12 @@ use Rattle.fdw_api.specs.State.{BoxState}
 use Rattle.med_exec.specs.declared.running.Run.{Run}
 use Rattle.med_exec.specs.Running.{ServesRun, none_held}
 use Rattle.med_exec.specs.Rests.{held}
-use Rattle.std.proofs.lemmas.Bool.{cases_lt}
 use Rattle.med_parser.specs.CommandCauses.{is_fetch_zero_command}
 use Rattle.med_parser.specs.CommandTree.{on_cursors}
-use Rattle.open_cursors.specs.Open.{Opened, Seated, opened_named, without_named, with_run}
-use Rattle.open_cursors.specs.Fetching.{GivesNone, no_memory, cause_of, has_enough, HasRisen, PullsEnded}
-use Rattle.open_cursors.proofs.Asking.{risen_by}
-use Rattle.open_cursors.proofs.Pulled.{pulls_ended}
+use Rattle.med_world.specs.Open.{Opened, Seated, opened_named, without_named, with_run}
+use Rattle.med_world.specs.Fetching.{GivesNone, no_memory, cause_of, has_enough, HasRisen, PullsEnded}
+use Rattle.med_world.proofs.Asking.{risen_by}
+use Rattle.med_world.proofs.Pulled.{pulls_ended}
 use Rattle.med_world.proofs.Lists.{some_same}
 use Rattle.sql_meaning.specs.Requests.{AskedLine, sql, IsSid}
 use Rattle.sql_meaning.specs.Steps.{TakesMemory}
@@ -27,8 +26,8 @@ use Rattle.med_world.specs.Turning.{with_cursors, having_asked, IsOfOpen, Ends, 
 use Rattle.med_session.specs.Cursors.{having, Fetched, NoneAsked, is_unknown, lacks_memory, KeepsCursors, GivesUp, NotFetched, cause_in, LosesCursor, MayBeUntold, IfFetched}
 use Rattle.med_session.specs.declared.cursors.FetchFault.{FetchFault}
 use Rattle.med_session.specs.declared.cursors.FetchFault.TheVariants as fault
-use Rattle.session_replies.specs.declared.replies.Outcome.{Outcome}
-use Rattle.session_replies.specs.declared.replies.Outcome.TheVariants as outcome
+use Rattle.med_statements.specs.declared.replies.Outcome.{Outcome}
+use Rattle.med_statements.specs.declared.replies.Outcome.TheVariants as outcome
 use Rattle.med_world.proofs.CursorSeats.{seat_put}
 use Rattle.med_session.proofs.Seats.{set_twice, put_other, put_back}
 use Rattle.med_world.proofs.CursorLists.{named_runs}

@@ -8,7 +8,7 @@ use Rattle.fdw_api.specs.Calls.{Binds, RefusesBind}
 use Rattle.fdw_api.specs.declared.interface.Fault.{Fault}
 use Rattle.med_exec.specs.Slots.{ChangesAt}
 use Rattle.med_binder.specs.Places.{Attached}
-use Rattle.med_world.specs.Altering.{cause_of}
+use Rattle.med_world.specs.Fetching.{cause_of}
 
 -- the table is bound in the box in this place, and stands last
 pub record BindsLast (place : ℕ) (remote : List ℕ) (columns : List Column) (settings : List OptionForm)

@@ -14,16 +14,16 @@ use Rattle.med_exec.specs.Running.{ServesRun, none_held}
 use Rattle.med_exec.specs.Rests.{held}
 use Rattle.med_catalog.specs.Objects.{Objects}
 use Rattle.med_binder.specs.Places.{Attached}
-use Rattle.open_cursors.specs.Open.{Opened, Seated, is_full, opened_named, without_named, with_run}
-use Rattle.open_cursors.specs.Starting.{Starts, StartFails}
-use Rattle.open_cursors.specs.Fetching.{GivesRows, GivesNone, HasRisen, PullsFetched, PullsEnded, cause_of}
+use Rattle.med_world.specs.Open.{Opened, Seated, is_full, opened_named, without_named, with_run}
+use Rattle.med_world.specs.Starting.{Starts, StartFails}
+use Rattle.med_world.specs.Fetching.{GivesRows, GivesNone, HasRisen, PullsFetched, PullsEnded, cause_of}
 use Rattle.sql_meaning.specs.Requests.{AskedLine}
 use Rattle.sql_meaning.specs.Replies.{refused}
 use Rattle.med_world.specs.Seats.{seat_of}
 use Rattle.med_world.specs.Turning.{new_opened, with_cursors, having_asked, Ends}
 use Rattle.med_world.specs.Engine.{Shown, Leads}
-use Rattle.session_replies.specs.declared.replies.Outcome.{Outcome}
-use Rattle.session_replies.specs.declared.replies.Outcome.TheVariants as outcome
+use Rattle.med_statements.specs.declared.replies.Outcome.{Outcome}
+use Rattle.med_statements.specs.declared.replies.Outcome.TheVariants as outcome
 use Rattle.med_session.specs.declared.cursors.FetchFault.{FetchFault}
 use Rattle.med_session.specs.declared.cursors.FetchFault.TheVariants as fault
 

@@ -7,8 +7,9 @@ use Rattle.fdw_api.specs.declared.interface.Fault.{Fault}
 use Rattle.med_exec.specs.Slots.{ChangesAt}
 use Rattle.med_catalog.specs.Objects.{ServerObject, TableObject}
 use Rattle.med_world.specs.Engine.{Shown, IsServerAt, with_change}
-use Rattle.med_world.specs.Altering.{cause_of, IsFreeAt, BindsInVain}
+use Rattle.med_world.specs.Altering.{IsFreeAt, BindsInVain}
 use Rattle.med_catalog.specs.Changes.{new_server}
+use Rattle.med_world.specs.Fetching.{cause_of}
 
 pub data TableFails (old : Shown) (t : TableObject) (c : Cause) (new : Shown) : Type 0 where
   -- memory was refused before the bind

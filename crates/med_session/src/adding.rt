@@ -4,7 +4,7 @@ ghost use Rattle.med_exec.specs.Slots.{states};
 ghost use Rattle.med_session.specs.Shows.{label};
 ghost use Rattle.med_world.specs.Adding.{HasSource};
 ghost use Rattle.med_world.specs.Engine.{IsNamedAt};
-ghost use Rattle.std.specs.Prelude.{◌≡◌, map, option_map, IfSome, IfNone, IfErr, OnOk, OnErr};
+ghost use Rattle.std.specs.Prelude.{◌≡◌, map, IfSome, IfNone, IfErr, OnOk, OnErr};
 
 use crate::engine::Engine;
 use crate::sources::NamedSource;

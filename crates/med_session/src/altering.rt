@@ -1,5 +1,4 @@
 //! Statements on objects: what the catalogue asks of them, and what the boxes of sources are asked for it.
-ghost use Rattle.med_binder.specs.Places.{attached};
 ghost use Rattle.med_syntax.specs.DdlView.{ddl_tree};
 ghost use Rattle.fdw_api.specs.Calls.{CanBind};
 ghost use Rattle.fdw_api.specs.State.{BoxState, IsIdle};
@@ -18,8 +17,8 @@ use med_catalog::{Change, Server, SourceKind, Table};
 use med_exec::slots::ledger_at;
 use med_syntax::Ddl;
 use med_value::Cause;
+use med_world::is_leased;
 use med_world::law::{boxes_are_ready, leases_bar_drops};
-use open_cursors::is_leased;
 use std::alloc::Global;
 
 // Whether two kinds are one.

@@ -12,7 +12,7 @@ use fdw_api::interface::TableOption;
 use fdw_api::wishes::Wrapper2;
 use med_binder::BoundTable;
 use med_exec::slots::{bind_at, unbind_at};
-use med_select::cause_of;
+use med_statements::cause_of;
 use med_value::{Cause, ColumnDef};
 use std::alloc::Global;
 

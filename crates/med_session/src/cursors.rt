@@ -8,9 +8,9 @@ ghost use Rattle.med_binder.specs.Places.{attached};
 ghost use Rattle.med_binder.specs.Tables.{AreNamedOnce};
 ghost use Rattle.med_catalog.specs.View.{objects};
 ghost use Rattle.med_exec.specs.Slots.{states};
-ghost use Rattle.med_select.specs.Ready.{AreReady};
+ghost use Rattle.med_statements.specs.Ready.{AreReady};
 ghost use Rattle.med_exec.specs.Rests.{IsRunning};
-ghost use Rattle.open_cursors.specs.Open.{Opened, seated};
+ghost use Rattle.med_world.specs.Open.{Opened, seated};
 ghost use Rattle.med_world.specs.Seats.{IsSoundSeat};
 ghost use Rattle.med_session.specs.Cursors.{Opens, OpensNone, Fetched, NotFetched, Ended, NotEnded, cause_in};
 
@@ -18,10 +18,10 @@ use fdw_api::wishes::Wrapper2;
 use med_binder::BoundTable;
 use med_catalog::Catalog;
 use med_exec::law::{running_is_held, services_join};
-use med_select::{RowSet, Started, cause_of, start_select};
+use med_statements::{RowSet, Started, cause_of, start_select};
 use med_syntax::{Declare, FetchCount};
 use med_value::{Cause, NoMemory};
-use open_cursors::{OpenCursor, Seat, Unfetched, close_cursor, fetch, is_full, position, take};
+use med_world::{OpenCursor, Seat, Unfetched, close_cursor, fetch, is_full, position, take};
 use std::alloc::Global;
 
 // The names of columns, once more.

@@ -9,18 +9,16 @@ use fdw_api::wishes::Wrapper2;
 use med_binder::BoundTable;
 use med_catalog::Catalog;
 use med_parser::{Command, one_tree, parse};
-use med_rows::run_write;
-use med_select::run_select;
+use med_statements::text_laws::texts_are_clean;
+use med_statements::{Outcome, run_select, run_write, table_of, word_of, write_reply};
 use med_value::Cause;
 use med_world::law::{
     boxes_are_ready, changes_lead, cursors_may_close, engines_begin, queries_lead, sessions_end,
     sessions_lead, statements_are_refused, writes_lead,
 };
-use open_cursors::{Asked, Seat, close_all, is_leased};
-use session_replies::{Outcome, table_of, word_of, write_reply};
+use med_world::{Asked, Seat, close_all, is_leased};
 use std::alloc::Global;
 use thiserror::Error;
-use write_laws::text_laws::texts_are_clean;
 
 /// The room in the output that is taken before a request is begun.
 const ROOM: usize = 128;
@@ -49,7 +47,7 @@ pub enum NewFault {
 impl<W: Wrapper2> Engine<W> {
     ghost use Rattle.med_session.specs.Asking.{asked};
     ghost use Rattle.med_session.specs.Cursors.{IfFetched, MayBeUntold};
-    ghost use Rattle.session_replies.specs.Outcomes.{reply_of};
+    ghost use Rattle.med_statements.specs.Outcomes.{reply_of};
     ghost use Rattle.med_session.specs.Shows.{shown};
     ghost use Rattle.med_value.specs.Limits.{session_count};
     ghost use Rattle.med_world.specs.Engine.{IsSound, Agrees, Leads, IsAnswered, Closes, ClosesAll};

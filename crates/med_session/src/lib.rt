@@ -15,5 +15,5 @@ pub mod users;
 pub use adding::{AddFault, Sources};
 pub use engine::{Engine, NewFault};
 pub use med_catalog::SourceKind;
+pub use med_statements::Outcome;
 pub use session::{NoRoom, Request, Sid};
-pub use session_replies::Outcome;

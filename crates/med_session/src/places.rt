@@ -1,17 +1,17 @@
 //! The places of the sessions: that of session n is n - 1, and holds its seat where it is open.
-ghost use Rattle.std.specs.Prelude.{◌≡◌, ◌-◌, ◌≤◌, None, Some, is_some, map, option_map, replicate, slice_set, vec_len, IfOk};
+ghost use Rattle.std.specs.Prelude.{◌≡◌, ◌-◌, None, Some, is_some, option_map, replicate, slice_set, vec_len, IfOk};
 ghost use Rattle.med_exec.specs.Running.{ServesRun, none_held};
 ghost use Rattle.med_exec.specs.Slots.{states};
 ghost use Rattle.med_value.specs.Limits.{session_count};
 ghost use Rattle.med_world.specs.Seats.{seat_of, user_of};
-ghost use Rattle.open_cursors.specs.Open.{seated, seats_shown, held_by, AreHeld, AreOwn, all_cursors};
+ghost use Rattle.med_world.specs.Open.{seated, seats_shown, held_by, AreHeld, AreOwn, all_cursors};
 
 use crate::session::Sid;
 use fdw_api::wishes::Wrapper2;
 use med_exec::law::{other_runs_are_left, services_join};
 use med_value::NoMemory;
 use med_value::limits::SESSION_COUNT;
-use open_cursors::{Seat, close_all};
+use med_world::{Seat, close_all};
 use std::alloc::Global;
 
 // The places of the sessions, all closed.

@@ -1,5 +1,5 @@
 //! Sessions and what they ask.
-ghost use Rattle.std.specs.Prelude.{◌≡◌, ◌-◌, ◌≤◌, is_some, map, option_map, slice_set, string_bytes, vec_len};
+ghost use Rattle.std.specs.Prelude.{◌≡◌, ◌-◌, ◌≤◌};
 ghost use Rattle.med_value.specs.Limits.{session_count};
 
 use med_value::limits::SESSION_COUNT;

@@ -1,6 +1,5 @@
 //! Statements on cursors: DECLARE, FETCH and CLOSE in the session that asks them.
 ghost use Rattle.std.specs.Prelude.{ℕ, List, IsSome, string_bytes};
-ghost use Rattle.med_binder.specs.Looked.{query_in};
 ghost use Rattle.med_syntax.specs.CursorTree.{declare as declare_tree, fetch as fetch_tree, close as close_tree};
 ghost use Rattle.med_syntax.specs.CursorView.{count_tree, cursor_tree};
 ghost use Rattle.med_parser.specs.CommandTree.{on_cursors};
@@ -15,13 +14,13 @@ use crate::engine::Engine;
 use crate::places::{put_seat, take_seat};
 use crate::session::Sid;
 use fdw_api::wishes::Wrapper2;
+use med_statements::Outcome;
 use med_syntax::{CursorStatement, Declare, Fetch};
 use med_world::law::{cursors_lead, sessions_lead};
-use session_replies::Outcome;
 
 impl<W: Wrapper2> Engine<W> {
     ghost use Rattle.med_session.specs.Cursors.{HasCursor, LosesCursor, IfFetched, MayBeUntold};
-    ghost use Rattle.session_replies.specs.Outcomes.{reply_of};
+    ghost use Rattle.med_statements.specs.Outcomes.{reply_of};
     ghost use Rattle.med_session.specs.Shows.{shown};
     ghost use Rattle.med_world.specs.Engine.{IsSound, Leads};
 

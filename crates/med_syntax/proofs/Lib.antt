@@ -1,1 +1,12 @@
 pub mod ReservedWords
+pub mod TokenShapes
+pub mod TokenNumbers
+pub mod ExprChains
+pub mod ExprComplete
+pub mod ExprSound
+pub mod ExprTerminals
+pub mod BoundedReading
+pub mod ExprWeighing
+pub mod QueryKeywords
+pub mod QueryTerminals
+pub mod QueryLabels

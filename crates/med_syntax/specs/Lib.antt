@@ -11,3 +11,15 @@ pub mod WriteTree
 pub mod WriteView
 pub mod CursorTree
 pub mod CursorView
+pub mod Shapes
+pub mod View
+pub mod ExprReading
+pub mod SymbolView
+pub mod ExprSteps
+pub mod ExprAnswers
+pub mod ExprTerminals
+pub mod ExprGrammar
+pub mod ExprWeight
+pub mod QueryTerminals
+pub mod QueryGrammar
+pub mod QueryCauses

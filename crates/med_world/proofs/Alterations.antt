@@ -13,7 +13,7 @@ use Rattle.med_catalog.specs.declared.kind.SourceKind.{SourceKind}
 use Rattle.med_world.specs.Engine.{Label, Shown, leased, AreSound, IsServerAt, IsStandingAt, TakesAs, IsSound, with_change, Alters}
 use Rattle.med_world.specs.Altering.{IsAllowed, SourcesAllow, IsAltered, NotAltered, catalog_shows, not_free, no_memory, bind_fails, bind_undone}
 use Rattle.med_world.proofs.Lists.{some_same, bytes_same, other_bytes, push_cases, one_place}
-use Rattle.med_world.proofs.Named.{place_of, at_place, map_place, found_place, found_passes, find_first, back_first, find_fewer, back_fewer, none_left, still_found}
+use Rattle.med_world.proofs.NamedTables.{place_of, at_place, map_place, found_place, found_passes, find_first, back_first, find_fewer, back_fewer, none_left, still_found}
 use Rattle.med_world.proofs.Faring.{changes_by}
 use Rattle.med_world.proofs.ScansChanged.{catalog_scans}
 use Rattle.med_world.proofs.Kept.{IsClear, IsUntaken, free_to_drop, stays_sound, unused, unbound, table_rows}

@@ -27,7 +27,7 @@ use Rattle.med_world.proofs.Scans.{all_stay, unleased_scan}
 use Rattle.med_world.proofs.States.{honest_state, shared_state, honest_since, same_state}
 use Rattle.med_world.proofs.ScansChanged.{left_itself, quiet_left, catalog_scans, bind_quiet, bind_scans, unbind_quiet, unbind_scans, refused_quiet, refused_scans, vain_quiet, vain_scans, drop_left, drop_scans, first_named}
 use Rattle.med_world.proofs.Lists.{some_same, none_some, same_bytes, other_bytes, one_place, zero≢suc, left_was}
-use Rattle.med_world.proofs.Faring.{Spares, that_is, vain_spares, refuses_spares, spares_itself, changes_by, binds_spares, unbinds_spares, was_there, set_other, same_box, left_box}
+use Rattle.med_world.proofs.Faring.{Spares, that_is, vain_spares, refuses_spares, changes_by, binds_spares, unbinds_spares, set_other, same_box}
 
 -- ---- sources
 

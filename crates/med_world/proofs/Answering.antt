@@ -18,12 +18,12 @@ use Rattle.sql_meaning.specs.Sizes.{is_large_form}
 use Rattle.sql_meaning.specs.Requests.{sql, IsSid}
 use Rattle.sql_meaning.specs.Picks.{no_pick}
 use Rattle.sql_meaning.specs.World.{World}
-use Rattle.sql_meaning.specs.Causes.{query_of, phase}
+use Rattle.sql_meaning.specs.Causes.{query_of}
 use Rattle.sql_meaning.specs.Replies.{Reply, answered, refused}
 use Rattle.sql_meaning.specs.Steps.{numbers_end}
 use Rattle.med_world.specs.Engine.{Shown, IsSound, Agrees, Leads}
 use Rattle.med_world.specs.Selecting.{Selects, SelectFails, not_bound, too_many, run_fails}
-use Rattle.open_cursors.specs.Starting.{RunFails, no_memory, box_fails, numbers_out, shows_cause}
+use Rattle.med_world.specs.Starting.{RunFails, no_memory, box_fails, numbers_out, shows_cause}
 use Rattle.med_world.specs.Seats.{user_of}
 use Rattle.med_world.specs.Laws.{IsRead, with_boxes}
 use Rattle.med_world.proofs.Faring.{none_rises}
@@ -36,6 +36,7 @@ use Rattle.med_world.proofs.CursorCausing.{cursor_phase}
 use Rattle.med_world.proofs.RowCausing.{WritesPhased, row_phase}
 use Rattle.med_world.proofs.Serving.{serving_rises, serving_agrees, serving_sound}
 use Rattle.med_world.proofs.Sessions.{is_open_by, is_closed_by}
+use Rattle.med_catalog.specs.DdlCauses.{phase}
 
 -- ---- a text that is not read
 

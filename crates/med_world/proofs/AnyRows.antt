@@ -14,7 +14,7 @@ use Rattle.med_write.specs.declared.write.WrittenColumn.{WrittenColumn}
 use Rattle.med_write.specs.Form.{GivenForm, WriteForm, insert_form, update_form, delete_form}
 use Rattle.med_write.specs.Writing.{row_made, new_cells, rows_given, rows_written, count_of, choice_faults, write_faults, lacks_value, write_lacks, made, rows_after, changes_of}
 use Rattle.med_write.specs.Making.{cells_of as cells_given}
-use Rattle.write_exec.specs.Writing.{AreRead}
+use Rattle.med_exec.specs.Writing.{AreRead}
 use Rattle.sql_meaning.specs.Picks.{as_given}
 use Rattle.sql_meaning.specs.World.{cells_of}
 

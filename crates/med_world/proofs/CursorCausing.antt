@@ -7,8 +7,9 @@ use Rattle.med_syntax.specs.CursorTree.{CursorTree, declare, fetch, close}
 use Rattle.med_query.specs.Form.{is_risky_form}
 use Rattle.sql_meaning.specs.World.{World, Session}
 use Rattle.sql_meaning.specs.Cursors.{cursor_named}
-use Rattle.sql_meaning.specs.Causes.{meant_over, SelectCauses, DeclareCauses, exists, of_query, is_risky, too_many, CursorCauses, phase}
+use Rattle.sql_meaning.specs.Causes.{meant_over, SelectCauses, DeclareCauses, exists, of_query, is_risky, too_many, CursorCauses}
 use Rattle.med_world.proofs.Querying.{ArePhased, select_phase}
+use Rattle.med_catalog.specs.DdlCauses.{phase}
 
 pub cursor_phase : ArePhased → (w : World) (s : Session) (t : CursorTree) (c : Cause) → CursorCauses w s t c → 3 ≤ phase c
 cursor_phase law w s (declare name (select q)) c (exists is there) = let p : phase c ≡ 3 = ap phase is in omega arith

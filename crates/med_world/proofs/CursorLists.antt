@@ -7,12 +7,12 @@ use Rattle.med_value.specs.Datum.{Tuple}
 use Rattle.med_syntax.specs.Tree.{Name}
 use Rattle.fdw_api.specs.State.{BoxState}
 use Rattle.med_exec.specs.declared.running.Run.{Run}
-use Rattle.open_cursors.specs.Open.{Opened, AreNamedApart, has_name, opened_named, without_named, runs_on, with_run}
+use Rattle.med_world.specs.Open.{Opened, AreNamedApart, has_name, opened_named, without_named, runs_on, with_run}
 use Rattle.sql_meaning.specs.World.{World, Cursor, reads_table}
 use Rattle.sql_meaning.specs.Cursors.{is_cursor, hand_out}
 use Rattle.med_world.specs.Seats.{CursorAgrees, CursorsAgree}
 use Rattle.med_world.proofs.Lists.{some_same, same_bytes, bytes_same, other_bytes, bytes_other, each_at}
-use Rattle.med_world.proofs.Named.{place_of, at_place, map_place, none_later, distinct_push}
+use Rattle.med_world.proofs.NamedTables.{place_of, at_place, map_place, none_later, distinct_push}
 use Rattle.med_world.proofs.Seats.{StandsOn, RestsStay, here_first, here_later, cursor_stays, or_true}
 
 -- ---- the cursor of a name

@@ -13,18 +13,18 @@ use Rattle.med_binder.specs.Queries.{meant_by, IsBindable}
 use Rattle.med_binder.specs.Places.{Attached, IsPlaceOf, ArePlaces}
 use Rattle.med_binder.specs.Place.{Place}
 use Rattle.med_exec.specs.declared.running.Run.{Run}
-use Rattle.open_cursors.specs.Open.{Opened, leases_table}
+use Rattle.med_world.specs.Open.{Opened, leases_table}
 use Rattle.med_world.specs.Turning.{new_opened}
 use Rattle.med_catalog.specs.Objects.{TableObject, Objects}
-use Rattle.open_cursors.specs.Starting.{leases_of}
-use Rattle.sql_meaning.specs.World.{World, Leased, cells_of, rows_in, rows_named}
+use Rattle.med_world.specs.Starting.{leases_of}
+use Rattle.sql_meaning.specs.World.{World, Leased, cells_of, rows_of_place, rows_named}
 use Rattle.sql_meaning.specs.Cursors.{rows_leased}
 use Rattle.sql_meaning.specs.Causes.{entry_tables, entries_in}
 use Rattle.sql_meaning.specs.Steps.{leased_now}
 use Rattle.med_world.specs.Seats.{StillStands}
 use Rattle.med_world.specs.Engine.{IsFirst, LeasesNumber}
 use Rattle.med_world.proofs.Lists.{some_same, same_bytes}
-use Rattle.med_world.proofs.Named.{place_of, at_place, map_place, some_of}
+use Rattle.med_world.proofs.NamedTables.{place_of, at_place, map_place, some_of}
 use Rattle.med_world.proofs.Seats.{any_at}
 use Rattle.med_world.proofs.ScansChanged.{first_named}
 use Rattle.med_world.proofs.TargetRows.{first_from, first_table}
@@ -73,7 +73,7 @@ all_known o user q b =
 
 -- ---- the rows of an entry
 
-first_rows : (name : Name) (tables : List TableObject) (rows : List (List Held)) (k : ℕ) → IsFirst name tables k → cells_of (rows_named name tables rows) ≡ rows_in rows k
+first_rows : (name : Name) (tables : List TableObject) (rows : List (List Held)) (k : ℕ) → IsFirst name tables k → cells_of (rows_named name tables rows) ≡ rows_of_place rows k
 first_rows name [] rows k first = absurd first
 first_rows name (t ∷ ts) [] k first = refl
 first_rows name (t ∷ ts) (r ∷ rs) zero first = ap (λ b. cells_of (cond b r (rows_named name ts rs))) first
@@ -97,11 +97,11 @@ at_known o e known =
 abbrev leased_as : World → EntryTree → Leased
 leased_as w e = record { table = e.table; rows = cells_of (rows_named e.table w.catalog.tables w.rows) }
 
-rows_of_entries : (w : World) (es : List EntryTree) → AllKnown (shapes w.catalog) es → (k : ℕ) → rows_leased (map (leased_as w) es) k ≡ entry_tables (map (entry_place (shapes w.catalog)) es) (rows_in w.rows) k
+rows_of_entries : (w : World) (es : List EntryTree) → AllKnown (shapes w.catalog) es → (k : ℕ) → rows_leased (map (leased_as w) es) k ≡ entry_tables (map (entry_place (shapes w.catalog)) es) (rows_of_place w.rows) k
 rows_of_entries w [] known k = refl
 rows_of_entries w (e ∷ es) known zero =
     let at = at_known w.catalog e known.0 in
-    first_rows e.table w.catalog.tables w.rows at.place at.first ∙ ap (rows_in w.rows) (sym at.is)
+    first_rows e.table w.catalog.tables w.rows at.place at.first ∙ ap (rows_of_place w.rows) (sym at.is)
 rows_of_entries w (e ∷ es) known (suc k) = rows_of_entries w es known.1 k
 
 -- the rows that a cursor keeps at DECLARE are those that its query is over

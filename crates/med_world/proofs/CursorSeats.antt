@@ -19,9 +19,9 @@ use Rattle.med_exec.proofs.Leaving.{is_some_of, served_leaves, served_fresh}
 use Rattle.med_exec.proofs.Left.{run_goes_on, run_is_held, held_is_live}
 use Rattle.med_syntax.specs.CursorTree.{CountTree, CursorTree}
 use Rattle.med_parser.specs.CommandTree.{on_cursors}
-use Rattle.open_cursors.specs.Open.{Opened, Seated, is_full, has_name, opened_named, without_named, runs_on, with_run}
-use Rattle.open_cursors.specs.Starting.{ScansOne, Starts, StartFails, not_bound, is_risky, no_room, too_many, run_fails}
-use Rattle.open_cursors.specs.Fetching.{GivesRows}
+use Rattle.med_world.specs.Open.{Opened, Seated, is_full, has_name, opened_named, without_named, runs_on, with_run}
+use Rattle.med_world.specs.Starting.{ScansOne, Starts, StartFails, not_bound, is_risky, no_room, too_many, run_fails}
+use Rattle.med_world.specs.Fetching.{GivesRows}
 use Rattle.sql_meaning.specs.Requests.{sql, IsSid}
 use Rattle.sql_meaning.specs.Picks.{no_pick}
 use Rattle.sql_meaning.specs.World.{World, Session}
@@ -32,7 +32,7 @@ use Rattle.med_world.specs.Engine.{Shown, LeasesNumber, IsOwned, IsSound, Agrees
 use Rattle.med_world.specs.Turning.{new_opened, with_cursors, having_asked, Ends, at_once, later}
 use Rattle.med_world.specs.Laws.{IsRead, with_boxes}
 use Rattle.med_world.proofs.Lists.{some_same, none_some, same_bytes, bytes_same, bytes_other}
-use Rattle.med_world.proofs.Named.{place_of, at_place, map_place, found_place, found_passes}
+use Rattle.med_world.proofs.NamedTables.{place_of, at_place, map_place, found_place, found_passes}
 use Rattle.med_world.proofs.Faring.{same_box, set_same}
 use Rattle.med_world.proofs.Seats.{RestsStay, on_stays, IsIn, place_there, here_first, here_later}
 use Rattle.med_world.proofs.Scans.{apart_none, IsSpared, TurnsOn, Turned}

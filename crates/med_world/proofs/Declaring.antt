@@ -1,5 +1,5 @@
 -- DECLARE leads to its reply.
-use Rattle.std.proofs.Common.{◌≡◌, ℕ, ◌<◌, ◌≤◌, Bool, true, false, map, List, [], ◌∷◌, ◌++◌, Option, Some, None, is_some, codes, refl, ap, sym, ◌∙◌, subst, arith, inl, inr, lit≤}
+use Rattle.std.proofs.Common.{◌≡◌, ℕ, ◌≤◌, Bool, true, false, map, List, [], ◌∷◌, ◌++◌, Option, Some, None, is_some, codes, refl, ap, sym, ◌∙◌, subst, arith, inl, inr, lit≤}
 use Rattle.std.proofs.lemmas.Bool.{false≢true}
 use Rattle.med_value.specs.declared.cause.Cause.{Cause}
 use Rattle.med_value.specs.declared.cause.Cause.TheVariants.{LimitExceeded, FeatureNotSupported, DuplicateCursor, SourceFault, OutOfMemory}
@@ -19,15 +19,15 @@ use Rattle.bind_names.specs.Meaning.{Meant}
 use Rattle.med_binder.specs.Queries.{QueryNames, QueryTypes, meant_by, IsBindable, NotBound}
 use Rattle.med_binder.specs.Places.{ArePlaces}
 use Rattle.med_catalog.specs.Objects.{Objects}
-use Rattle.open_cursors.specs.Open.{Seated, is_full, opened_named}
+use Rattle.med_world.specs.Open.{Seated, is_full, opened_named}
 use Rattle.med_query.specs.Form.{is_risky_form}
-use Rattle.open_cursors.specs.Starting.{Starts, StartFails, not_bound, is_risky, no_room, too_many, run_fails, RunFails, no_memory, box_fails, numbers_out, shows_cause}
+use Rattle.med_world.specs.Starting.{Starts, StartFails, not_bound, is_risky, no_room, too_many, run_fails, RunFails, no_memory, box_fails, numbers_out, shows_cause}
 use Rattle.sql_meaning.specs.Sizes.{is_large_form}
 use Rattle.sql_meaning.specs.Requests.{sql, IsSid}
 use Rattle.sql_meaning.specs.Picks.{no_pick}
-use Rattle.sql_meaning.specs.World.{World, rows_in, with_session}
+use Rattle.sql_meaning.specs.World.{World, rows_of_place, with_session}
 use Rattle.sql_meaning.specs.Cursors.{with_cursor}
-use Rattle.sql_meaning.specs.Causes.{query_of, entry_tables, meant_over, reads_shared, QueryRun, DeclareCauses, exists, of_query, is_risky as may_fault, too_many as is_full_already, phase, NoneBeforeState}
+use Rattle.sql_meaning.specs.Causes.{query_of, entry_tables, meant_over, reads_shared, QueryRun, DeclareCauses, exists, of_query, is_risky as may_fault, too_many as is_full_already, NoneBeforeState}
 use Rattle.sql_meaning.specs.Replies.{Reply, done, refused}
 use Rattle.sql_meaning.specs.Steps.{Step, new_cursor, is_refused, is_done, source_fails, numbers_end}
 use Rattle.med_world.specs.Seats.{seat_of, opened_in, CursorAgrees, CursorsAgree}
@@ -49,6 +49,7 @@ use Rattle.med_world.proofs.CursorCausing.{cursor_phase, least_declare, none_dec
 use Rattle.med_world.proofs.CursorRows.{rows_kept, tables_kept, tables_stand}
 use Rattle.med_world.proofs.CursorLists.{one_more, named_last}
 use Rattle.med_world.proofs.CursorSeats.{seat_put, cursors_at, picks_none, not_named, is_named, not_full, full_there, declared_turn, declared_left, here_stays}
+use Rattle.med_catalog.specs.DdlCauses.{phase}
 
 -- the statement, and the session that it is of
 abbrev Tree : Name → SelectTree → CommandTree
@@ -103,7 +104,7 @@ declared e new sid text seat name q names run read at sound free h = record {
     none w a = none_declare w (session_in w sid seat.user) name q (not_named e w sid seat name read.is_sid at a free)
         (none_select w seat.user q (bindable w a) (none_many e w q a h.few)
         (λ d x. subst (λ (m : Meant). (d : Cause) → ShowsIn w m d → ⊥) (same_meant e w q a)
-        (h.rests.clear (honest w a x.0) (entry_tables (meant_by e.catalog q).entries (rows_in w.rows)) (same_entries e w q h.places a h.are (honest w a x.0))) d x.1))
+        (h.rests.clear (honest w a x.0) (entry_tables (meant_by e.catalog q).entries (rows_of_place w.rows)) (same_entries e w q h.places a h.are (honest w a x.0))) d x.1))
         (λ risk. false≢true (sym h.safe ∙ risk_there e w q a ∙ risk))
         (not_full e w sid seat read.is_sid at a h.room)
 
@@ -116,8 +117,8 @@ declared e new sid text seat name q names run read at sound free h = record {
       some = λ unshared. h.rests.some (honest w a unshared);
       honest = λ unshared. run_honest h.places run new h.holds (run_is_held run new h.running) (honest_in_still none_held (held run) (map (λ (p : Place). p.source) h.places) e.boxes new h.served (honest w a unshared));
       answers = λ unshared rows r. subst (λ (db : Tables). IsAnswer (query_of (meant_over w q)) db rows) (sym (rows_kept w seat.user q (bindable w a)))
-          (subst (λ (m : Meant). IsAnswer (query_of m) (entry_tables m.entries (rows_in w.rows)) rows) (same_meant e w q a)
-          (h.rests.answers (honest w a unshared) (entry_tables (meant_by e.catalog q).entries (rows_in w.rows)) (same_entries e w q h.places a h.are (honest w a unshared)) rows r));
+          (subst (λ (m : Meant). IsAnswer (query_of m) (entry_tables m.entries (rows_of_place w.rows)) rows) (same_meant e w q a)
+          (h.rests.answers (honest w a unshared) (entry_tables (meant_by e.catalog q).entries (rows_of_place w.rows)) (same_entries e w q h.places a h.are (honest w a unshared)) rows r));
       bare = λ b. h.bare (subst (λ (m : Meant). IsBareForm m.form) (sym (same_meant e w q a)) (bare_form (meant_over w q).form b));
     }
 
@@ -204,7 +205,7 @@ run_leads e new sid text seat name q c places read at sound free b safe room few
     by w a true shares = shared_step w sid text (session_in w sid seat.user) (Tree name q) c (known_declare e w sid text seat name q a read) shares of_run (λ p d x. let r : 6 ≤ phase d = late_all w a d x in omega arith)
     by w a false unshared =
         let honest = query_honest e w q places sound a unshared are in
-        let run : QueryRun w q c = (unshared, subst (λ (m : Meant). ShowsIn w m c) (same_meant e w q a) (h honest (entry_tables (meant_by e.catalog q).entries (rows_in w.rows)) (same_entries e w q places a are honest))) in
+        let run : QueryRun w q c = (unshared, subst (λ (m : Meant). ShowsIn w m c) (same_meant e w q a) (h honest (entry_tables (meant_by e.catalog q).entries (rows_of_place w.rows)) (same_entries e w q places a are honest))) in
         is_refused no_pick c (picks_none e w sid text seat (declare name (select q)) a read)
         (told_tree w sid no_pick text (session_in w sid seat.user) (Tree name q) c (known_declare e w sid text seat name q a read) (of_query (inr (inr (inr run))))
         (λ d x. let p : phase c ≡ 6 = run_phase w q c run in let r : 6 ≤ phase d = late_all w a d x in omega arith)) refl refl

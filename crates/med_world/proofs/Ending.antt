@@ -18,7 +18,7 @@ use Rattle.sql_meaning.specs.World.{World}
 use Rattle.sql_meaning.specs.Causes.{IsPickOf}
 use Rattle.sql_meaning.specs.Replies.{refused}
 use Rattle.med_world.specs.Engine.{Shown, IsSound, IsServerAt, Agrees, Rises, EachRises, Leads}
-use Rattle.med_world.specs.Altering.{cause_of, IsAllowed, BindsInVain, NotAltered, catalog_shows, not_free, no_memory, bind_fails, bind_undone}
+use Rattle.med_world.specs.Altering.{IsAllowed, BindsInVain, NotAltered, catalog_shows, not_free, no_memory, bind_fails, bind_undone}
 use Rattle.med_world.specs.Laws.{IsRead}
 use Rattle.med_world.proofs.Faring.{changes_by, changes_rise, rises_itself, none_rises, refuses_rises, vain_rises}
 use Rattle.med_world.proofs.Altered.{refused_agrees, vain_agrees}
@@ -27,6 +27,7 @@ use Rattle.med_world.proofs.Objecting.{AreObjects}
 use Rattle.med_world.proofs.Picking.{some_pick, free_back}
 use Rattle.med_world.proofs.Asks.{asks_refused, asks_read}
 use Rattle.med_world.proofs.Leading.{session_in, known, leads_memory, shows_leads, taken_leads, refused_leads, failed_leads}
+use Rattle.med_world.specs.Fetching.{cause_of}
 
 changed_rise : (P : BoxState → BoxState → Type 0) (old new : List (Option BoxState)) (slot : ℕ) → ((b c : BoxState) → P b c → Rises b c) → ChangesAt old slot P new → EachRises old new
 changed_rise P old new slot rises h = changes_rise Or old new slot (λ b. inl refl) rise (changes_by P Or old new slot (λ b c k. inr k) h)

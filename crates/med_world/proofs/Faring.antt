@@ -9,7 +9,7 @@ use Rattle.fdw_api.specs.declared.interface.Fault.TheVariants.{NoMemory, Source,
 use Rattle.med_exec.specs.Slots.{ChangesAt}
 use Rattle.med_catalog.specs.Objects.{TableObject}
 use Rattle.med_world.specs.Altering.{BindsInVain}
-use Rattle.med_world.specs.Engine.{EachBox, Rises, Fares, EachRises}
+use Rattle.med_world.specs.Engine.{Rises, Fares, EachRises}
 
 pub set_same : {A : Type 0} (xs : List A) (i : ℕ) (x y : A) → slice_get xs i ≡ Some x → slice_get (slice_set xs i y) i ≡ Some y
 set_same [] i x y h = absurd cc
@@ -180,9 +180,6 @@ is_there P old new slot i b same h at = split (eqb_tells i slot)
 
 pub spares_itself : (only : ℕ → Type 0) (b : BoxState) → Spares only b b
 spares_itself only b = record { nature = refl; live = refl; staged = refl; tables = λ t ne. refl; rows = λ o t ne. refl; holdings = λ o. refl; coming = λ o q live. refl }
-
-pub each_kept : (P Q : BoxState → BoxState → Type 0) (R : BoxState → Type 0) (old new : List (Option BoxState)) (slot : ℕ) → ((b : BoxState) → P b b) → ((b c : BoxState) → P b c → R b → R c) → ChangesAt old slot P new → EachBox R old → EachBox R new
-each_kept P Q R old new slot same kept h each i c at = let w = was_there P old new slot i c same h at in kept w.0 c w.2 (each i w.0 w.1)
 
 pub changes_rise : (P : BoxState → BoxState → Type 0) (old new : List (Option BoxState)) (slot : ℕ) → ((b : BoxState) → P b b) → ((b c : BoxState) → P b c → Rises b c) → ChangesAt old slot P new → EachRises old new
 changes_rise P old new slot same rises h = record {

@@ -8,7 +8,7 @@ use Rattle.med_syntax.specs.CursorTree.{CountTree, some_rows, all_rows}
 use Rattle.sql_meaning.specs.World.{Cursor}
 use Rattle.sql_meaning.specs.Cursors.{rows_leased, handing, IsEnough, Fetched, AreFetched, IsLast, rows_fetched}
 use Rattle.med_world.proofs.Lists.{some_same}
-use Rattle.med_world.proofs.Named.{place_of}
+use Rattle.med_world.proofs.NamedTables.{place_of}
 
 -- ---- answers are of one length
 

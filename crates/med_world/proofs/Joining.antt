@@ -12,7 +12,7 @@ use Rattle.sql_meaning.specs.World.{World, Source, with_source}
 use Rattle.med_world.specs.Engine.{Label, Shown, EachBox, EachTakes, TakesAs, IsNamedAt, IsAmong, IsSound, state_of, sources_of, RowsAgree, Agrees}
 use Rattle.med_world.specs.Adding.{HasSource, with_box, Adds}
 use Rattle.med_world.proofs.Lists.{some_same, none_some, push_before, push_cases, past}
-use Rattle.med_world.proofs.Named.{distinct_push}
+use Rattle.med_world.proofs.NamedTables.{distinct_push}
 use Rattle.med_world.proofs.Seats.{sessions_still}
 use Rattle.med_world.proofs.Scans.{all_stay}
 use Rattle.med_world.proofs.ScansChanged.{add_left, add_scans}

@@ -17,7 +17,7 @@ use Rattle.med_catalog.specs.declared.kind.SourceKind.{SourceKind}
 use Rattle.sql_meaning.specs.World.{is_taken}
 use Rattle.med_world.specs.Engine.{AreSound}
 use Rattle.med_world.proofs.Lists.{some_same, bytes_same, same_bytes, other_bytes, bytes_other, push_cases}
-use Rattle.med_world.proofs.Named.{place_of, at_place, distinct_more, distinct_fewer, same_first, find_first, find_fewer, back_fewer, still_found, some_of, none_of}
+use Rattle.med_world.proofs.NamedTables.{place_of, at_place, distinct_more, distinct_fewer, same_first, find_first, find_fewer, back_fewer, still_found, some_of, none_of}
 
 -- ---- a statement asks one change
 

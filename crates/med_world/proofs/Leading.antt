@@ -13,15 +13,15 @@ use Rattle.med_exec.specs.Running.{HasFailed}
 use Rattle.med_syntax.specs.DdlTree.{DdlTree}
 use Rattle.med_catalog.specs.Objects.{ServerObject, TableObject, Objects}
 use Rattle.med_catalog.specs.Changes.{changed, ObjectChange, nothing, new_wrapper, new_server, new_mapping, new_table, no_wrapper, no_server, no_mapping, no_table, Asks}
-use Rattle.med_catalog.specs.DdlCauses.{DdlCauses}
+use Rattle.med_catalog.specs.DdlCauses.{DdlCauses, phase}
 use Rattle.sql_meaning.specs.Requests.{AskedLine, sql}
 use Rattle.med_parser.specs.CommandTree.{CommandTree, on_objects}
 use Rattle.sql_meaning.specs.Steps.{ddl_tag, Trouble, TakesMemory, with_catalog, Changes, Step, is_refused, is_done, lacks_memory, source_fails, shared_shows}
 use Rattle.sql_meaning.specs.Picks.{Pick, no_pick}
-use Rattle.open_cursors.specs.Open.{Seated}
+use Rattle.med_world.specs.Open.{Seated}
 use Rattle.med_world.specs.Seats.{seat_of, SeatAgrees}
 use Rattle.sql_meaning.specs.World.{World, Cursor, Session, standing, shared, dropped, source_named, is_taken, IsFree, Serves, is_shared_server}
-use Rattle.sql_meaning.specs.Causes.{Reads, SourceCauses, ObjectCauses, TreeCauses, PicksEntry, IsPickOf, IsTold, NoneStands, NoneBeforeState, RestsOnShared, MayShow, phase}
+use Rattle.sql_meaning.specs.Causes.{Reads, SourceCauses, ObjectCauses, TreeCauses, PicksEntry, IsPickOf, IsTold, NoneStands, NoneBeforeState, RestsOnShared, MayShow}
 use Rattle.sql_meaning.specs.Replies.{done, refused}
 use Rattle.med_world.specs.Engine.{Rises, Shown, leased, IsSound, IsNamedAt, IsServerAt, Agrees, Befell, EachRises, AsksBoxes, Leads, with_change, Alters, state_of}
 use Rattle.med_world.specs.Laws.{IsRead}

@@ -1,5 +1,12 @@
+pub mod Asking
+pub mod Rows
+pub mod Closing
+pub mod Names
+pub mod Counts
+pub mod KeptCursors
+pub mod Pulled
 pub mod Lists
-pub mod Named
+pub mod NamedTables
 pub mod Seats
 mod Kept
 pub mod Faring
@@ -22,7 +29,7 @@ mod Answering
 mod Phases
 mod Querying
 mod CursorCausing
-mod Leases
+mod LeaseLemmas
 mod CursorRows
 pub mod CursorLists
 pub mod CursorSeats

@@ -12,10 +12,10 @@ use Rattle.fdw_api.specs.Calls.{IsLeast}
 use Rattle.med_syntax.specs.DdlTree.{DdlTree}
 use Rattle.med_catalog.specs.Objects.{TableObject, Objects}
 use Rattle.med_catalog.specs.Changes.{ObjectChange, nothing, new_wrapper, new_server, new_mapping, new_table, no_wrapper, no_server, no_mapping, no_table, Asks}
-use Rattle.med_catalog.specs.DdlCauses.{DdlCauses}
+use Rattle.med_catalog.specs.DdlCauses.{DdlCauses, phase}
 use Rattle.sql_meaning.specs.Picks.{Pick}
 use Rattle.sql_meaning.specs.World.{World, is_shared_server, is_leased}
-use Rattle.sql_meaning.specs.Causes.{Reads, SourceCauses, ObjectCauses, phase}
+use Rattle.sql_meaning.specs.Causes.{Reads, SourceCauses, ObjectCauses}
 use Rattle.med_world.specs.Engine.{Shown, leased, IsSound, Agrees}
 use Rattle.sql_meaning.specs.Steps.{HasRows, as_read, any_rows}
 use Rattle.med_world.proofs.Altered.{one_kind, none_serves}

@@ -1,7 +1,7 @@
 -- The box that the run of a cursor over one table asks: that of a table which the cursor leases.
-use Rattle.std.proofs.Common.{◌≡◌, ◌∙◌, ◌+◌, ℕ, ◌-◌, List, Option, Some, None, Contains, ap, sym, refl, subst}
+use Rattle.std.proofs.Common.{◌≡◌, ◌∙◌, ◌+◌, ℕ, ◌-◌, List, Option, Some, Contains, ap, sym, refl, subst}
 use Rattle.med_syntax.specs.Tree.{Name}
-use Rattle.fdw_api.specs.State.{Scan, BoxState, scan_of}
+use Rattle.fdw_api.specs.State.{BoxState, scan_of}
 use Rattle.scan_loops.specs.Running.{source_at, number_at}
 use Rattle.scan_loops.proofs.OwnLemmas.{held_of_levels}
 use Rattle.med_exec.specs.declared.running.Rest.{Rest}
@@ -12,8 +12,8 @@ use Rattle.med_exec.specs.Rests.{scans_of, IsGood, held, IsRunning}
 use Rattle.med_exec.proofs.Leaving.{is_some_of}
 use Rattle.med_exec.proofs.Left.{run_is_held, held_is_live}
 use Rattle.med_syntax.specs.CursorTree.{CountTree, some_rows, all_rows}
-use Rattle.open_cursors.specs.Open.{Opened, Seated, opened_named}
-use Rattle.open_cursors.specs.Fetching.{IsWithin}
+use Rattle.med_world.specs.Open.{Opened, Seated, opened_named}
+use Rattle.med_world.specs.Fetching.{IsWithin}
 use Rattle.med_world.specs.Seats.{seat_of, opened_in, IsOpenAt}
 use Rattle.med_world.specs.Engine.{Shown, LeasesNumber, IsSound, GivesWithin}
 use Rattle.med_world.proofs.Lists.{some_same, same_bytes}

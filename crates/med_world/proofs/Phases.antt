@@ -17,11 +17,10 @@ use Rattle.med_syntax.specs.DdlTree.{DdlTree}
 use Rattle.med_catalog.specs.Objects.{TableObject, Objects, table_named}
 use Rattle.med_catalog.specs.Rights.{mode_for}
 use Rattle.med_catalog.specs.declared.kind.Mode.{Mode}
-use Rattle.med_catalog.specs.DdlCauses.{DdlCauses}
+use Rattle.med_catalog.specs.DdlCauses.{DdlCauses, phase}
 use Rattle.med_binder.specs.Tables.{shapes}
 use Rattle.med_binder.specs.Barred.{reading_causes, table_causes, query_right_causes}
 use Rattle.med_binder.specs.Queries.{QueryNames}
-use Rattle.sql_meaning.specs.Causes.{phase}
 use Rattle.med_world.proofs.Kept.{asks_once}
 use Rattle.med_world.proofs.Objecting.{AreObjects}
 use Rattle.med_world.proofs.Querying.{ArePhased}

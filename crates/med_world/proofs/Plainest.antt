@@ -1,15 +1,15 @@
 -- The plainest queries: what their form is, and how few rows a FETCH of theirs has a box give.
-use Rattle.std.proofs.Common.{◌≡◌, ◌∙◌, ℕ, ◌+◌, ◌<◌, ◌≤◌, Bool, true, false, cond, nat_eq, List, [], ◌∷◌, Option, Some, None, option_map, map, refl, ap, sym, subst, arith}
+use Rattle.std.proofs.Common.{◌≡◌, ◌∙◌, ℕ, ◌+◌, ◌≤◌, Bool, true, false, cond, nat_eq, List, [], ◌∷◌, Option, Some, None, option_map, map, refl, ap, sym, subst, arith}
 use Rattle.tri_expr.specs.Tree.{Tree}
 use Rattle.tri_expr.specs.Meaning.{means}
-use Rattle.med_query.specs.Query.{Chain, Table, Cross, Inner, LeftJoin, Core, Query, Grouping}
+use Rattle.med_query.specs.Query.{Chain, Table, Core}
 use Rattle.med_query.specs.Form.{JoinForm, cross_form, inner_form, left_form, ChainForm, GroupForm, CoreForm, Form, join_by, joins_by, chain_by, group_by, core_by, query_by}
-use Rattle.med_planner.specs.Plain.{IsPlainForm, IsBareForm}
+use Rattle.med_planner.specs.Plain.{IsBareForm}
 use Rattle.fdw_api.specs.State.{BoxState}
 use Rattle.med_exec.specs.declared.running.Run.{Run}
 use Rattle.med_exec.specs.Pulling.{skip_in, pulled_at, PullsAtMost, many_in, IsBareRun, GivesAsTheyCome}
 use Rattle.med_syntax.specs.CursorTree.{CountTree}
-use Rattle.open_cursors.specs.Fetching.{PullsFetched}
+use Rattle.med_world.specs.Fetching.{PullsFetched}
 use Rattle.sql_meaning.specs.Cursors.{IsBareQuery}
 
 -- ---- from the query to its form

@@ -1,5 +1,5 @@
 -- A query leads to its reply.
-use Rattle.std.proofs.Common.{◌≡◌, ℕ, ◌<◌, ◌≤◌, Bool, true, false, List, [], ◌∷◌, Option, Some, slice_get, map, codes, refl, ap, sym, ◌∙◌, subst, arith, inl, inr, zero, suc, IsPermutation}
+use Rattle.std.proofs.Common.{◌≡◌, ℕ, ◌≤◌, Bool, true, false, List, [], ◌∷◌, Option, Some, slice_get, map, codes, refl, ap, sym, ◌∙◌, subst, arith, inl, inr, zero, suc, IsPermutation}
 use Rattle.std.proofs.lemmas.Bool.{false≢true}
 use Rattle.std.proofs.lemmas.List.Sorted.{IsPermutation-refl, IsPermutation-map}
 use Rattle.med_value.specs.Datum.{Tuple}
@@ -26,20 +26,21 @@ use Rattle.sql_meaning.specs.Sizes.{is_large_form}
 use Rattle.sql_meaning.specs.Requests.{sql}
 use Rattle.med_parser.specs.CommandTree.{on_data}
 use Rattle.sql_meaning.specs.Picks.{no_pick}
-use Rattle.sql_meaning.specs.World.{World, cells_of, rows_in}
-use Rattle.sql_meaning.specs.Causes.{query_of, entry_tables, meant_over, entries_in, reads_shared, QueryState, QueryRun, SelectCauses, IsPickOf, phase}
+use Rattle.sql_meaning.specs.World.{World, cells_of, rows_of_place}
+use Rattle.sql_meaning.specs.Causes.{query_of, entry_tables, meant_over, entries_in, reads_shared, QueryState, QueryRun, SelectCauses, IsPickOf}
 use Rattle.sql_meaning.specs.Replies.{answered, refused}
 use Rattle.sql_meaning.specs.Steps.{Step, is_refused, is_done, source_fails}
 use Rattle.med_world.specs.Engine.{Shown, IsSound, AreRowsOf, RowsAgree, Agrees, EachRises, Leads}
 use Rattle.med_world.specs.Selecting.{Selects}
 use Rattle.med_world.specs.Laws.{IsRead}
 use Rattle.med_world.proofs.Lists.{some_same}
-use Rattle.med_world.proofs.Named.{place_of, at_place}
+use Rattle.med_world.proofs.NamedTables.{place_of, at_place}
 use Rattle.med_world.proofs.Sharing.{query_honest}
 use Rattle.med_world.proofs.Faring.{none_rises}
 use Rattle.med_world.proofs.Asks.{asks_refused, asks_read}
 use Rattle.med_world.proofs.Told.{told_tree, none_tree, before_tree, pick_tree}
 use Rattle.med_world.proofs.Leading.{calm, calm_befell, calm_unasked, session_in, known, leads_either, leads_refused, leads_memory, shared_step}
+use Rattle.med_catalog.specs.DdlCauses.{phase}
 
 -- a cause of names or rights is of phase 3, and one of types of phase 4: laws of the binder
 pub record ArePhased : Type 0 where
@@ -92,21 +93,21 @@ row_agrees boxes a rows h = record {
   holds = λ honest. subst (λ (xs : List Tuple). IsPermutation xs (cells_of rows)) (cells_held (rows_of h.box a.number)) (IsPermutation-map (λ (x : Held). x.cells) (map held (rows_of h.box a.number)) rows (h.holds honest));
 }
 
-rows_agree : (boxes : List (Option BoxState)) (bound : List Attached) (rows : List (List Held)) (k : ℕ) (a : Attached) → RowsAgree boxes bound rows → slice_get bound k ≡ Some a → BoxAt boxes a.source (λ s. is_honest s → IsPermutation (tuples_of s a.number) (rows_in rows k))
+rows_agree : (boxes : List (Option BoxState)) (bound : List Attached) (rows : List (List Held)) (k : ℕ) (a : Attached) → RowsAgree boxes bound rows → slice_get bound k ≡ Some a → BoxAt boxes a.source (λ s. is_honest s → IsPermutation (tuples_of s a.number) (rows_of_place rows k))
 rows_agree boxes [] [] k a h at = absurd cc
 rows_agree boxes [] (r ∷ rs) k a h at = absurd h
 rows_agree boxes (b ∷ bs) [] k a h at = absurd h
 rows_agree boxes (b ∷ bs) (r ∷ rs) zero a h at = subst (λ (x : Attached). BoxAt boxes x.source (λ s. is_honest s → IsPermutation (tuples_of s x.number) (cells_of r))) (some_same b a at) (row_agrees boxes b r h.0)
 rows_agree boxes (b ∷ bs) (r ∷ rs) (suc k) a h at = rows_agree boxes bs rs k a h.1 at
 
-place_rows : (boxes : List (Option BoxState)) (bound : List Attached) (rows : List (List Held)) (k : ℕ) (p : Place) → HonestAt boxes p.source → RowsAgree boxes bound rows → IsPlaceOf bound k p → IsPermutation (rows_shown (slice_get boxes p.source) p.table) (rows_in rows k)
+place_rows : (boxes : List (Option BoxState)) (bound : List Attached) (rows : List (List Held)) (k : ℕ) (p : Place) → HonestAt boxes p.source → RowsAgree boxes bound rows → IsPlaceOf bound k p → IsPermutation (rows_shown (slice_get boxes p.source) p.table) (rows_of_place rows k)
 place_rows boxes bound rows k p honest h i =
     let b = rows_agree boxes bound rows k i.at h i.there in
     let is : rows_shown (slice_get boxes p.source) p.table ≡ tuples_of b.box i.at.number =
     ap (λ (s : ℕ). rows_shown (slice_get boxes s) p.table) i.source ∙ ap (λ (o : Option (Option BoxState)). rows_shown o p.table) b.there ∙ ap (λ (t : ℕ). tuples_of b.box t) i.number in
-    subst (λ (xs : List Tuple). IsPermutation xs (rows_in rows k)) (sym is) (b.holds (honest b.box (ap (slice_get boxes) i.source ∙ b.there)))
+    subst (λ (xs : List Tuple). IsPermutation xs (rows_of_place rows k)) (sym is) (b.holds (honest b.box (ap (slice_get boxes) i.source ∙ b.there)))
 
-pub entries_agree : (boxes : List (Option BoxState)) (bound : List Attached) (rows : List (List Held)) (ks : List ℕ) (ps : List Place) → HonestOver ps boxes → RowsAgree boxes bound rows → ArePlaces bound ks ps → SameRows (entry_rows boxes ps) (entry_tables ks (rows_in rows))
+pub entries_agree : (boxes : List (Option BoxState)) (bound : List Attached) (rows : List (List Held)) (ks : List ℕ) (ps : List Place) → HonestOver ps boxes → RowsAgree boxes bound rows → ArePlaces bound ks ps → SameRows (entry_rows boxes ps) (entry_tables ks (rows_of_place rows))
 entries_agree boxes bound rows [] [] honest h is t = IsPermutation-refl []
 entries_agree boxes bound rows [] (p ∷ ps) honest h is t = absurd is
 entries_agree boxes bound rows (k ∷ ks) [] honest h is t = absurd is
@@ -121,26 +122,26 @@ bindable_in e w user q a h = subst (λ (o : Objects). IsBindable o user q) (sym 
 pub same_meant : (e : Shown) (w : World) (q : SelectTree) → Agrees e w → meant_by e.catalog q ≡ meant_over w q
 same_meant e w q a = ap (λ (o : Objects). meant_by o q) (sym a.catalog)
 
-pub same_entries : (e : Shown) (w : World) (q : SelectTree) (places : List Place) → Agrees e w → ArePlaces e.bound (meant_by e.catalog q).entries places → HonestOver places e.boxes → SameRows (entry_rows e.boxes places) (entry_tables (meant_by e.catalog q).entries (rows_in w.rows))
+pub same_entries : (e : Shown) (w : World) (q : SelectTree) (places : List Place) → Agrees e w → ArePlaces e.bound (meant_by e.catalog q).entries places → HonestOver places e.boxes → SameRows (entry_rows e.boxes places) (entry_tables (meant_by e.catalog q).entries (rows_of_place w.rows))
 same_entries e w q places a are honest = entries_agree e.boxes e.bound w.rows (meant_by e.catalog q).entries places honest a.rows are
 
 pub none_many : (e : Shown) (w : World) (q : SelectTree) → Agrees e w → is_large_form (meant_by e.catalog q).form ≡ false → (d : Cause) → QueryState w q d → ⊥
 none_many e w q a few d h = false≢true (sym (subst (λ (m : Meant). is_large_form m.form ≡ false) (same_meant e w q a) few) ∙ h.0)
 
 abbrev pub ShowsIn : World → Meant → Cause → Type 0
-ShowsIn w m c = IsShownCause (query_of m) (entry_tables m.entries (rows_in w.rows)) c
+ShowsIn w m c = IsShownCause (query_of m) (entry_tables m.entries (rows_of_place w.rows)) c
 
 none_runs : (e new : Shown) (w : World) (user : Name) (q : SelectTree) (names : List Name) (given : List Tuple) → IsSound e → Agrees e w → Selects e.catalog user e.bound q e.boxes names given new.boxes → (d : Cause) → QueryRun w q d → ⊥
 none_runs e new w user q names given sound a h d (unshared, x) =
     let honest = query_honest e w q h.places sound a unshared h.are in
     subst (λ (m : Meant). (d : Cause) → ShowsIn w m d → ⊥) (same_meant e w q a)
-    (h.answers.clear honest (entry_tables (meant_by e.catalog q).entries (rows_in w.rows)) (same_entries e w q h.places a h.are honest)) d x
+    (h.answers.clear honest (entry_tables (meant_by e.catalog q).entries (rows_of_place w.rows)) (same_entries e w q h.places a h.are honest)) d x
 
 answers_in : (e new : Shown) (w : World) (user : Name) (q : SelectTree) (names : List Name) (given : List Tuple) → IsSound e → Agrees e w → Selects e.catalog user e.bound q e.boxes names given new.boxes → reads_shared w q ≡ false → IsAnswer (query_of (meant_over w q)) (entries_in w q) given
 answers_in e new w user q names given sound a h unshared =
     let honest = query_honest e w q h.places sound a unshared h.are in
-    subst (λ (m : Meant). IsAnswer (query_of m) (entry_tables m.entries (rows_in w.rows)) given) (same_meant e w q a)
-    (h.answers.answers honest (entry_tables (meant_by e.catalog q).entries (rows_in w.rows)) (same_entries e w q h.places a h.are honest))
+    subst (λ (m : Meant). IsAnswer (query_of m) (entry_tables m.entries (rows_of_place w.rows)) given) (same_meant e w q a)
+    (h.answers.answers honest (entry_tables (meant_by e.catalog q).entries (rows_of_place w.rows)) (same_entries e w q h.places a h.are honest))
 
 pub none_select : (w : World) (user : Name) (q : SelectTree) → IsBindable w.catalog user q → ((d : Cause) → QueryState w q d → ⊥) → ((d : Cause) → QueryRun w q d → ⊥) → (d : Cause) → SelectCauses w user q d → ⊥
 none_select w user q b states runs d (inl h) = b.names d h
@@ -206,7 +207,7 @@ shows_run_leads e new sid text user q places c read sound b few are of_run h ris
     by w a true shares = shared_step w sid text (session_in w sid user) (on_data (select q)) c (known e w sid text user (on_data (select q)) a read) shares of_run (λ p d x. let r : 6 ≤ phase d = late w a d x in omega arith)
     by w a false unshared =
         let honest = query_honest e w q places sound a unshared are in
-        let run : QueryRun w q c = (unshared, subst (λ (m : Meant). ShowsIn w m c) (same_meant e w q a) (h honest (entry_tables (meant_by e.catalog q).entries (rows_in w.rows)) (same_entries e w q places a are honest))) in
+        let run : QueryRun w q c = (unshared, subst (λ (m : Meant). ShowsIn w m c) (same_meant e w q a) (h honest (entry_tables (meant_by e.catalog q).entries (rows_of_place w.rows)) (same_entries e w q places a are honest))) in
         is_refused no_pick c (picks_none e w sid text user q a read)
         (told_tree w sid no_pick text (session_in w sid user) (on_data (select q)) c (known e w sid text user (on_data (select q)) a read) (inr (inr (inr run)))
         (λ d x. let p : phase c ≡ 6 = run_phase w q c run in let r : 6 ≤ phase d = late w a d x in omega arith)) refl refl

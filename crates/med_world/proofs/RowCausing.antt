@@ -12,16 +12,17 @@ use Rattle.med_syntax.specs.WriteTree.{GivenTree, values, rows_of, WriteTree, in
 use Rattle.tri_expr.specs.declared.expr.Fault.TheVariants.{Range, Zero}
 use Rattle.fdw_api.specs.Kinds.{is_of_run}
 use Rattle.med_catalog.specs.Objects.{Objects}
-use Rattle.write_parts.specs.Meaning.{target_of}
-use Rattle.write_parts.specs.Naming.{WriteNames}
-use Rattle.write_parts.specs.Typing.{WriteTypes}
+use Rattle.bind_write.specs.Meaning.{target_of}
+use Rattle.bind_write.specs.Naming.{WriteNames}
+use Rattle.bind_write.specs.Typing.{WriteTypes}
 use Rattle.bind_write.specs.Binding.{IsBindable}
 use Rattle.sql_meaning.specs.Picks.{Pick}
 use Rattle.sql_meaning.specs.World.{World}
-use Rattle.sql_meaning.specs.Causes.{phase, OfGiven, OfQuery, QueryState, WriteState, WriteRun, has_fault, lacks_value, is_refused, query_shows, RowCauses, IsRefused}
+use Rattle.sql_meaning.specs.Causes.{OfGiven, OfQuery, QueryState, WriteState, WriteRun, has_fault, lacks_value, is_refused, query_shows, RowCauses, IsRefused}
 use Rattle.med_world.specs.Engine.{Shown, Agrees, leased, IsSound}
 use Rattle.med_world.proofs.Seats.{leases_same}
 use Rattle.med_world.proofs.Querying.{state_phase, run_phase}
+use Rattle.med_catalog.specs.DdlCauses.{phase}
 
 -- ---- the query of an INSERT
 

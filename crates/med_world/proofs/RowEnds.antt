@@ -8,9 +8,10 @@ use Rattle.med_parser.specs.CommandTree.{on_rows}
 use Rattle.med_exec.specs.Running.{SlotShows, HasFailed, IsUsedUp}
 use Rattle.sql_meaning.specs.Picks.{Pick}
 use Rattle.sql_meaning.specs.World.{World}
-use Rattle.sql_meaning.specs.Causes.{OfQuery, reads_shared, writes_shared, RowCauses, IsRowPick, MayShow, phase}
+use Rattle.sql_meaning.specs.Causes.{OfQuery, reads_shared, writes_shared, RowCauses, IsRowPick, MayShow}
 use Rattle.sql_meaning.specs.Steps.{WritesIn}
 use Rattle.med_world.specs.Engine.{Shown, Agrees, EachRises}
+use Rattle.med_catalog.specs.DdlCauses.{phase}
 
 -- In a world the write of n rows is done: under a pick no cause stands, and the world after it agrees with the engine after it.
 pub record RowsDoneIn (w : World) (user : Name) (t : WriteTree) (n : ℕ) (new : Shown) : Type 0 where

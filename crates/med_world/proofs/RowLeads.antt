@@ -28,19 +28,19 @@ use Rattle.med_write.specs.declared.write.WriteFault.TheVariants.{Evaluation, No
 use Rattle.med_write.specs.Form.{WriteForm}
 use Rattle.med_write.specs.Writing.{count_of, rows_after}
 use Rattle.med_write.specs.Making.{cells_of as cells_given, IsWriteFault}
-use Rattle.write_exec.specs.Writing.{AreRead, write_refusal, KindRefuses, Bars, lacks_memory as box_lacks_memory, source_fails as box_fails_now, gives_twice, numbers_end as box_numbers_end, write_shows, kind_refuses, RefusesWrite}
-use Rattle.write_parts.specs.Meaning.{target_of}
-use Rattle.write_parts.specs.Naming.{WriteNames}
-use Rattle.write_parts.specs.Typing.{WriteTypes}
+use Rattle.med_exec.specs.Writing.{AreRead, write_refusal, KindRefuses, Bars, lacks_memory as box_lacks_memory, source_fails as box_fails_now, gives_twice, numbers_end as box_numbers_end, write_shows, kind_refuses, RefusesWrite}
+use Rattle.bind_write.specs.Meaning.{target_of}
+use Rattle.bind_write.specs.Naming.{WriteNames}
+use Rattle.bind_write.specs.Typing.{WriteTypes}
 use Rattle.bind_write.specs.Binding.{IsBindable, NotBound}
-use Rattle.med_world.specs.Altering.{cause_of}
+use Rattle.med_world.specs.Fetching.{cause_of}
 use Rattle.sql_meaning.specs.Picks.{Pick, no_pick, has_none}
-use Rattle.sql_meaning.specs.World.{World, cells_of, rows_in}
-use Rattle.sql_meaning.specs.Causes.{query_of, entry_tables, meant_over, entries_in, reads_shared, QueryState, QueryRun, OfGiven, OfQuery, write_over, rows_held, writes_shared, WriteState, query_shows, IsRowPick, PicksWrite, MayShow, phase}
+use Rattle.sql_meaning.specs.World.{World, cells_of, rows_of_place}
+use Rattle.sql_meaning.specs.Causes.{query_of, entry_tables, meant_over, entries_in, reads_shared, QueryState, QueryRun, OfGiven, OfQuery, write_over, rows_held, writes_shared, WriteState, query_shows, IsRowPick, PicksWrite, MayShow}
 use Rattle.sql_meaning.specs.Sizes.{is_large_form}
 use Rattle.sql_meaning.specs.Steps.{Writes, WritesIn, is_written, is_unseen}
 use Rattle.med_world.specs.Engine.{Shown, leased, IsSound, Agrees}
-use Rattle.open_cursors.specs.Starting.{RunFails, no_memory, box_fails, numbers_out, shows_cause}
+use Rattle.med_world.specs.Starting.{RunFails, no_memory, box_fails, numbers_out, shows_cause}
 use Rattle.med_world.specs.Writing.{FailsQuery, IsUntyped, columns_for, form_for, IsTargetAt, WritesRows, RefusesRows, WriteFails, not_bound, in_use, too_many, query_fails, box_refuses, rows_untyped}
 use Rattle.med_world.specs.Laws.{with_boxes}
 use Rattle.med_world.proofs.RowEnds.{RowsDoneIn, RowsDone, RowsToldIn, RestsIn, RowsRefusedIn, told_in, shared_in, NoneBeforeRows, WhyNotDone, is_told, lacks_memory, source_fails, numbers_end, RowsNotDone}
@@ -55,12 +55,9 @@ use Rattle.med_world.proofs.Sharing.{query_honest}
 use Rattle.med_world.proofs.TargetRows.{first_from, first_table}
 use Rattle.med_world.proofs.RowCausing.{of_query, WritesPhased, row_phase, row_from_types, row_from_state, row_from_run, none_row, writable_in, none_state, write_run_phase}
 use Rattle.med_world.proofs.RowPicks.{PicksOne, given_served, answer_picked, query_clear, query_few, form_same, RunsClear, RunShows, done_clear, unseen_clear, kind_told, Shows, shows_told, some_write, fault_in, lack_in}
+use Rattle.med_catalog.specs.DdlCauses.{phase}
 
 -- ---- done
-
--- the engine once the query of an INSERT was answered
-abbrev now_of : (e : Shown) (user : Name) (t : WriteTree) (n : ℕ) (new : List (Option BoxState)) → WritesRows e.catalog user e.bound t (leased e (target_of t)) e.boxes n new → Shown
-now_of e user t n new h = with_boxes e h.now
 
 pub rows_done : (e : Shown) (user : Name) (t : WriteTree) (n : ℕ) (new : List (Option BoxState)) → IsSound e → WritesRows e.catalog user e.bound t (leased e (target_of t)) e.boxes n new → RowsDone e user t n (with_boxes e new)
 rows_done e user t n new sound h = record { rises = rise_twice e.boxes h.now new (serving_rises e.boxes h.now served) (done_rises mid t h.answer h.at n new h.writes); each = each }
@@ -313,8 +310,8 @@ query_told e w t at q c new sound target_at a is h shows unshared = record {
     run : QueryRun w q c
     run = (
       unshared.1 q is,
-      subst (λ (m : Meant). IsShownCause (query_of m) (entry_tables m.entries (rows_in w.rows)) c) (same_meant e w q a)
-          (shows honest (entry_tables (meant_by e.catalog q).entries (rows_in w.rows)) (same_entries e w q h.places a h.are honest)),
+      subst (λ (m : Meant). IsShownCause (query_of m) (entry_tables m.entries (rows_of_place w.rows)) c) (same_meant e w q a)
+          (shows honest (entry_tables (meant_by e.catalog q).entries (rows_of_place w.rows)) (same_entries e w q h.places a h.are honest)),
     )
 
     none_given : PicksOne w t []

@@ -30,10 +30,10 @@ use Rattle.med_write.specs.declared.write.WrittenColumn.{WrittenColumn}
 use Rattle.med_write.specs.Form.{WriteForm}
 use Rattle.med_write.specs.Writing.{chosen_by, choice_faults, rows_written, write_faults, write_lacks, changes_of}
 use Rattle.med_write.specs.Making.{cells_of as cells_given}
-use Rattle.write_exec.specs.Writing.{AreRead, KindRefuses}
-use Rattle.write_parts.specs.Meaning.{target_of, columns_in, written_column, write_meant}
+use Rattle.med_exec.specs.Writing.{AreRead, KindRefuses}
+use Rattle.bind_write.specs.Meaning.{target_of, columns_in, written_column, write_meant}
 use Rattle.sql_meaning.specs.Picks.{Pick, no_pick, PicksAnswer, answers, as_given}
-use Rattle.sql_meaning.specs.World.{World, Serves, is_shared, cells_of, rows_in}
+use Rattle.sql_meaning.specs.World.{World, Serves, is_shared, cells_of, rows_of_place}
 use Rattle.sql_meaning.specs.Causes.{query_of, entry_tables, meant_over, entries_in, reads_shared, QueryState, QueryRun, OfGiven, OfQuery, write_over, columns_over, rows_held, writes_shared, IsTarget, IsRefused, WriteRun, has_fault, lacks_value, is_refused, query_shows, PicksEntry, PicksWrite}
 use Rattle.med_world.specs.Engine.{Shown, IsSound, Agrees}
 use Rattle.med_world.specs.Writing.{GivesAnswer, GivesRows, IsGiven, columns_for, form_for, IsTargetAt}
@@ -48,10 +48,10 @@ use Rattle.med_world.proofs.Written.{TargetIn, target_in, target_world, target_h
 -- ---- the query of an INSERT
 
 abbrev AnswersIn : World → Meant → List Tuple → Type 0
-AnswersIn w m answer = IsAnswer (query_of m) (entry_tables m.entries (rows_in w.rows)) answer
+AnswersIn w m answer = IsAnswer (query_of m) (entry_tables m.entries (rows_of_place w.rows)) answer
 
 abbrev ShowsIn : World → Meant → Cause → Type 0
-ShowsIn w m c = IsShownCause (query_of m) (entry_tables m.entries (rows_in w.rows)) c
+ShowsIn w m c = IsShownCause (query_of m) (entry_tables m.entries (rows_of_place w.rows)) c
 
 -- what is picked of the query of an INSERT is an answer of it, where it reads no shared source
 abbrev pub PicksOne : World → WriteTree → List Tuple → Type 0
@@ -61,13 +61,13 @@ given_answer : (e : Shown) (w : World) (q : SelectTree) (answer : List Tuple) (n
 given_answer e w q answer now sound a h unshared =
     let honest = query_honest e w q h.places sound a unshared h.are in
     subst (λ (m : Meant). AnswersIn w m answer) (same_meant e w q a)
-    (h.answers.answers honest (entry_tables (meant_by e.catalog q).entries (rows_in w.rows)) (same_entries e w q h.places a h.are honest))
+    (h.answers.answers honest (entry_tables (meant_by e.catalog q).entries (rows_of_place w.rows)) (same_entries e w q h.places a h.are honest))
 
 given_clear : (e : Shown) (w : World) (q : SelectTree) (answer : List Tuple) (now : List (Option BoxState)) → IsSound e → Agrees e w → GivesAnswer e.catalog e.bound q e.boxes answer now → (c : Cause) → QueryRun w q c → ⊥
 given_clear e w q answer now sound a h c (unshared, x) =
     let honest = query_honest e w q h.places sound a unshared h.are in
     subst (λ (m : Meant). (c : Cause) → ShowsIn w m c → ⊥) (same_meant e w q a)
-    (h.answers.clear honest (entry_tables (meant_by e.catalog q).entries (rows_in w.rows)) (same_entries e w q h.places a h.are honest)) c x
+    (h.answers.clear honest (entry_tables (meant_by e.catalog q).entries (rows_of_place w.rows)) (same_entries e w q h.places a h.are honest)) c x
 
 -- the boxes have served its query, if it has one
 none_asked : (old now : List (Option BoxState)) → now ≡ old → AllServed old now

@@ -5,7 +5,7 @@ use Rattle.med_value.specs.declared.cause.Cause.{Cause}
 use Rattle.med_value.specs.declared.cause.Cause.TheVariants.{LimitExceeded, SourceFault, OutOfMemory}
 use Rattle.med_syntax.specs.Tree.{Name}
 use Rattle.med_syntax.specs.WriteTree.{WriteTree}
-use Rattle.write_parts.specs.Meaning.{target_of}
+use Rattle.bind_write.specs.Meaning.{target_of}
 use Rattle.med_parser.specs.CommandTree.{on_rows}
 use Rattle.fdw_api.specs.State.{BoxState}
 use Rattle.med_exec.specs.Running.{SlotShows, HasFailed, IsUsedUp}

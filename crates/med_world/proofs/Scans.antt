@@ -1,40 +1,37 @@
 -- Live scans of an engine's boxes, and the open cursors that hold them.
-use Rattle.std.proofs.Common.{◌≡◌, ◌≢◌, ℕ, zero, suc, ◌-◌, ◌<◌, ◌⊎◌, inl, inr, eqb, true, false, Bool, List, [], ◌∷◌, ◌++◌, Option, Some, None, IsSome, Contains, slice_get, slice_set, slice_index_or, length, map, flat_map, refl, ap, sym, ◌∙◌, subst, arith, replicate, bytes_eq}
-use Rattle.std.specs.List.{IsDistinct, All, list_any}
+use Rattle.std.proofs.Common.{◌≡◌, ◌≢◌, ℕ, zero, suc, ◌-◌, ◌<◌, ◌⊎◌, inl, inr, eqb, true, false, List, [], ◌∷◌, ◌++◌, Option, Some, None, Contains, slice_get, slice_set, slice_index_or, length, map, refl, ap, sym, ◌∙◌, subst, arith, bytes_eq}
+use Rattle.std.specs.List.{IsDistinct}
 use Rattle.std.proofs.lemmas.Bool.{false≢true}
 use Rattle.std.proofs.lemmas.Bool.Decides.{eqb_tells}
 use Rattle.std.proofs.lemmas.List.Elements.{Contains-append_left, Contains-append_right, Contains-append_cases}
 use Rattle.std.proofs.lemmas.Option.{slice_get-get_or}
 use Rattle.med_syntax.specs.Tree.{Name}
-use Rattle.fdw_api.specs.State.{BoxState, BoxTable, Scan, table_of, scan_of, is_honest}
+use Rattle.fdw_api.specs.State.{BoxState, Scan, scan_of}
 use Rattle.fdw_api.specs.Calls.{NoScan}
 use Rattle.fdw_api.specs.Sound.{IsTableOf}
 use Rattle.med_exec.specs.Slots.{BoxAt}
 use Rattle.med_exec.specs.Running.{Held, ServesRun, AllServed, none_held}
-use Rattle.med_exec.specs.Rests.{Rests, held, IsRunning, IsHeld}
+use Rattle.med_exec.specs.Rests.{held, IsRunning}
 use Rattle.med_exec.specs.Leaving.{AreApart, LeavesRun, GoesOn}
 use Rattle.med_exec.proofs.Served.{box_inj, before_service}
-use Rattle.med_exec.proofs.Leaving.{in_or_not, is_some_of, served_leaves, served_had, served_fresh}
-use Rattle.med_exec.proofs.Left.{run_goes_on, run_is_held, held_is_live}
+use Rattle.med_exec.proofs.Leaving.{in_or_not, served_leaves, served_had}
+use Rattle.med_exec.proofs.Left.{run_goes_on, run_is_held}
 use Rattle.med_catalog.specs.Objects.{TableObject}
 use Rattle.med_binder.specs.Places.{Attached}
-use Rattle.open_cursors.specs.Open.{Opened, Seated, AreNamedApart, leases_table, seat_leases, any_leases, held_by, AreHeld, AreOwn, seat_cursors, all_cursors}
-use Rattle.med_world.specs.Seats.{seat_in, seat_of, IsSoundSeat, AreSoundSeats, IsOpenAt}
-use Rattle.med_world.specs.Engine.{Shown, leased, EachBox, IsAtRest, LeasesNumber, IsOwned, AreHeldOnce, IsUnstaged, KeepsScans, IsSound, Agrees}
+use Rattle.med_world.specs.Open.{Opened, Seated, AreNamedApart, leases_table, seat_leases, any_leases, held_by, AreHeld, AreOwn, seat_cursors, all_cursors}
+use Rattle.med_world.specs.Seats.{AreSoundSeats, IsOpenAt}
+use Rattle.med_world.specs.Engine.{Shown, leased, EachBox, IsAtRest, LeasesNumber, IsOwned, AreHeldOnce, IsUnstaged, KeepsScans}
 use Rattle.med_world.specs.Laws.{with_boxes, with_seats}
-use Rattle.med_world.proofs.Lists.{some_same, none_some, bytes_other, each_at}
-use Rattle.med_world.proofs.Named.{place_of, at_place, map_place}
-use Rattle.med_world.proofs.Faring.{same_box, set_same, set_other}
-use Rattle.med_world.proofs.Seats.{RestsStay, on_stays, AllStay, IsIn, place_there, any_at, here_first, here_later}
+use Rattle.med_world.proofs.Lists.{some_same, bytes_other, each_at}
+use Rattle.med_world.proofs.NamedTables.{place_of, at_place, map_place}
+use Rattle.med_world.proofs.Faring.{set_same, set_other}
+use Rattle.med_world.proofs.Seats.{RestsStay, on_stays, AllStay, IsIn, any_at, here_first, here_later}
 
 none_in : (number : ℕ) → Contains [] number → ⊥
 none_in number h = let n = h.1 in omega arith
 
 pub apart_none : (own : Held) → AreApart own none_held
 apart_none own slot number a b = none_in number b
-
-no_seat : (s : Seated) → None ≡ Some s → ⊥
-no_seat s e = cc
 
 -- ---- boxes change, and no session does
 

@@ -1,29 +1,27 @@
 -- A box changes, comes or goes, and the scans of open cursors stay.
-use Rattle.std.proofs.Common.{◌≡◌, ◌≢◌, ℕ, zero, suc, ◌⊎◌, inl, inr, true, false, List, [], ◌∷◌, ◌++◌, Option, Some, None, IsSome, Contains, slice_get, slice_set, length, refl, ap, sym, ◌∙◌, subst, bytes_eq}
+use Rattle.std.proofs.Common.{◌≡◌, ◌≢◌, ℕ, zero, suc, ◌⊎◌, inl, inr, false, List, [], ◌∷◌, ◌++◌, Option, Some, None, IsSome, slice_get, slice_set, length, refl, ap, sym, ◌∙◌, subst, bytes_eq}
 use Rattle.std.specs.FinMap as finmap
 use Rattle.std.specs.Ordering.{nat_cmp}
 use Rattle.std.proofs.lemmas.Bool.{false≢true}
 use Rattle.med_syntax.specs.Tree.{Name}
-use Rattle.fdw_api.specs.State.{BoxState, BoxTable, Scan, IsIdle, table_of, scan_of, is_honest}
-use Rattle.fdw_api.specs.Calls.{NoScan, Binds, Unbinds, Refuses}
+use Rattle.fdw_api.specs.State.{BoxState, Scan, IsIdle, table_of, scan_of}
+use Rattle.fdw_api.specs.Calls.{NoScan, Refuses}
 use Rattle.fdw_api.specs.Sound.{IsSoundBox}
 use Rattle.fdw_api.specs.declared.interface.Fault.{Fault}
 use Rattle.med_exec.specs.Slots.{BoxAt, ChangesAt}
-use Rattle.med_exec.specs.Rests.{held}
-use Rattle.med_exec.specs.Leaving.{KeepsScan, LeavesScan, LeavesRun}
-use Rattle.med_exec.proofs.Leaving.{is_some_of}
+use Rattle.med_exec.specs.Leaving.{KeepsScan}
 use Rattle.med_catalog.specs.Objects.{TableObject}
 use Rattle.med_catalog.specs.Changes.{ObjectChange, new_table, no_table, no_server, changed, without}
 use Rattle.med_binder.specs.Places.{Attached}
-use Rattle.open_cursors.specs.Open.{Opened}
+use Rattle.med_world.specs.Open.{Opened}
 use Rattle.sql_meaning.specs.World.{beside_without}
 use Rattle.med_world.specs.Seats.{IsOpenAt}
-use Rattle.med_world.specs.Engine.{Shown, leased, EachBox, LeasesNumber, IsOwned, IsUnstaged, KeepsScans, IsSound, IsFirst, with_change, BindsTable, UnbindsTable, DropsBox}
+use Rattle.med_world.specs.Engine.{Shown, leased, EachBox, LeasesNumber, IsUnstaged, KeepsScans, IsSound, IsFirst, with_change, BindsTable, UnbindsTable}
 use Rattle.med_world.specs.Altering.{BindsInVain}
 use Rattle.med_world.specs.Laws.{with_boxes}
-use Rattle.med_world.proofs.Lists.{some_same, none_some, same_bytes, bytes_same, push_before, push_cases}
+use Rattle.med_world.proofs.Lists.{some_same, none_some, bytes_same, push_before, push_cases}
 use Rattle.med_world.proofs.Indexes.{was_index, was_some, left_at, tables_left}
-use Rattle.med_world.proofs.Faring.{Spares, that_is, same_box, no_box, changes_by, was_there, set_other, left_box, binds_spares, unbinds_spares, refuses_spares, vain_spares}
+use Rattle.med_world.proofs.Faring.{Spares, that_is, same_box, changes_by, was_there, set_other, left_box, binds_spares, unbinds_spares, refuses_spares, vain_spares}
 use Rattle.med_world.proofs.Scans.{HadScans, AllLeft, KeepsLeases, leases_itself, scans_kept, leased_by, same_or_not}
 
 some_is : {X : Type 0} (o : Option X) (x : X) → o ≡ Some x → IsSome o

@@ -14,7 +14,7 @@ use Rattle.med_exec.specs.Leaving.{GoesOn}
 use Rattle.med_binder.specs.Places.{Attached}
 use Rattle.med_catalog.specs.Objects.{TableObject, Objects, table_named}
 use Rattle.med_catalog.specs.Changes.{new_table, no_table, without}
-use Rattle.open_cursors.specs.Open.{Opened, Seated, leases_table, seat_leases, any_leases}
+use Rattle.med_world.specs.Open.{Opened, Seated, leases_table, seat_leases, any_leases}
 use Rattle.med_value.specs.Limits.{session_count}
 use Rattle.sql_meaning.specs.Requests.{IsSid}
 use Rattle.sql_meaning.specs.World.{World, Leased, Cursor, Session, cells_of, rows_named, rows_with, beside_without, reads_table, leases, any_session, is_leased}
@@ -22,7 +22,7 @@ use Rattle.sql_meaning.specs.Steps.{with_catalog}
 use Rattle.med_world.specs.Seats.{seat_in, seat_of, IsOpenAt, StillStands, CursorAgrees, CursorsAgree, SeatAgrees}
 use Rattle.med_world.specs.Engine.{Shown, leased, IsSound, RowsAgree, Agrees}
 use Rattle.med_world.proofs.Lists.{some_same, same_bytes, bytes_same, other_bytes}
-use Rattle.med_world.proofs.Named.{place_of, at_place, find_fewer, still_found, some_of}
+use Rattle.med_world.proofs.NamedTables.{place_of, at_place, find_fewer, still_found, some_of}
 
 -- ---- runs over other boxes
 

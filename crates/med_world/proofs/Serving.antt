@@ -10,7 +10,7 @@ use Rattle.med_exec.specs.Running.{Served, Held as Scans, none_held, further, Se
 use Rattle.med_exec.proofs.Served.{box_inj, after_service, before_service}
 use Rattle.med_exec.proofs.Leaving.{in_or_not, served_had}
 use Rattle.med_value.specs.Limits.{session_count}
-use Rattle.open_cursors.specs.Open.{Seated}
+use Rattle.med_world.specs.Open.{Seated}
 use Rattle.med_world.specs.Seats.{AreSoundSeats}
 use Rattle.med_catalog.specs.Options.{table_settings, column_settings}
 use Rattle.med_binder.specs.Places.{Attached}

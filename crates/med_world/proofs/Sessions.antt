@@ -11,7 +11,7 @@ use Rattle.fdw_api.specs.State.{BoxState}
 use Rattle.med_exec.specs.Running.{ServesRun, none_held}
 use Rattle.med_exec.specs.Rests.{held}
 use Rattle.med_exec.proofs.Served.{all_served}
-use Rattle.open_cursors.specs.Open.{Opened, Seated, held_by, AreHeld, AreOwn, all_cursors}
+use Rattle.med_world.specs.Open.{Opened, Seated, held_by, AreHeld, AreOwn, all_cursors}
 use Rattle.med_value.specs.Limits.{session_count}
 use Rattle.sql_meaning.specs.Requests.{opening, bye, IsSid, IsUser}
 use Rattle.sql_meaning.specs.Picks.{no_pick}

@@ -1,8 +1,7 @@
 -- Where a statement reads no shared source, the boxes of its tables are honest.
-use Rattle.std.proofs.Common.{◌≡◌, ℕ, zero, suc, false, List, [], ◌∷◌, Option, Some, slice_get, map, Contains, ap, sym, ◌∙◌, arith}
+use Rattle.std.proofs.Common.{◌≡◌, ℕ, zero, suc, false, List, [], ◌∷◌, Some, slice_get, Contains, ap, sym, ◌∙◌, arith}
 use Rattle.std.specs.List.{list_any}
 use Rattle.med_syntax.specs.QueryTree.{SelectTree}
-use Rattle.fdw_api.specs.State.{BoxState}
 use Rattle.med_binder.specs.Place.{Place}
 use Rattle.med_exec.specs.Running.{HonestAt, HonestOver}
 use Rattle.med_catalog.specs.Objects.{Objects}

@@ -8,8 +8,9 @@ use Rattle.med_parser.specs.CommandTree.{CommandTree}
 use Rattle.med_parser.specs.CommandGrammar.{HasCommand}
 use Rattle.sql_meaning.specs.Picks.{Pick}
 use Rattle.sql_meaning.specs.World.{World, Session, IsOpen}
-use Rattle.sql_meaning.specs.Causes.{TreeCauses, IsStatementOf, Stands, phase, IsPick, IsPickOf, IsTold, NoneStands, NoneBeforeState, NoneBeforeRun}
+use Rattle.sql_meaning.specs.Causes.{TreeCauses, IsStatementOf, Stands, IsPick, IsPickOf, IsTold, NoneStands, NoneBeforeState, NoneBeforeRun}
 use Rattle.med_world.proofs.Lists.{some_same}
+use Rattle.med_catalog.specs.DdlCauses.{phase}
 
 -- a cause of the phase of syntax is of phase 2
 pub syntax_phase : (text : List ℕ) (c : Cause) → SyntaxCauses text c → phase c ≡ 2

@@ -17,13 +17,13 @@ use Rattle.med_exec.specs.Pulling.{levels_in, GivesAsTheyCome}
 use Rattle.med_exec.specs.Rests.{Rests, held}
 use Rattle.med_parser.specs.CommandTree.{on_cursors}
 use Rattle.med_syntax.specs.CursorTree.{CountTree, some_rows, all_rows, CursorTree, declare, fetch, close}
-use Rattle.open_cursors.specs.Open.{Opened, Seated, opened_named, without_named, with_run}
-use Rattle.open_cursors.specs.Fetching.{GivesRows, GivesNone, no_memory, box_fails, HasRisen, PullsFetched, PullsEnded}
+use Rattle.med_world.specs.Open.{Opened, Seated, opened_named, without_named, with_run}
+use Rattle.med_world.specs.Fetching.{GivesRows, GivesNone, no_memory, box_fails, HasRisen, PullsFetched, PullsEnded}
 use Rattle.sql_meaning.specs.Requests.{sql, IsSid}
 use Rattle.sql_meaning.specs.Picks.{no_pick}
 use Rattle.sql_meaning.specs.World.{World, Cursor, Session, with_session}
 use Rattle.sql_meaning.specs.Cursors.{IsBareQuery, is_cursor, rows_leased, cursor_named, without_cursor, hand_out, with_handed, Fetches}
-use Rattle.sql_meaning.specs.Causes.{CursorCauses, phase, NoneBeforeState}
+use Rattle.sql_meaning.specs.Causes.{CursorCauses, NoneBeforeState}
 use Rattle.sql_meaning.specs.Replies.{done, answered, refused}
 use Rattle.sql_meaning.specs.Steps.{Turns, is_done, source_fails, fetch_lacks_memory}
 use Rattle.med_world.specs.Seats.{seat_of, asked_in, asked_of, opened_in, CursorAgrees, CursorsAgree}
@@ -42,6 +42,7 @@ use Rattle.med_world.proofs.CursorLists.{one_fewer, one_turns, named_runs}
 use Rattle.med_world.proofs.Plainest.{still_bare}
 use Rattle.med_world.proofs.OwnBoxes.{gives_within}
 use Rattle.med_world.proofs.CursorSeats.{seat_put, cursors_at, picks_none, has_none, found_at, old_seat, ends_serve, fetched_turn, fetched_left, ended_turn, ended_left, here_stays, left_here}
+use Rattle.med_catalog.specs.DdlCauses.{phase}
 
 -- ---- no cursor of the name
 

@@ -14,8 +14,8 @@ use Rattle.fdw_api.specs.Calls.{NoScan}
 use Rattle.fdw_api.specs.Writes.{HoldsImage, Written}
 use Rattle.med_exec.specs.Slots.{ChangesAt}
 use Rattle.med_write.specs.Writing.{rows_after}
-use Rattle.write_exec.proofs.WrittenRows.{rows_written}
-use Rattle.write_parts.specs.Meaning.{target_of}
+use Rattle.med_exec.proofs.WrittenRows.{rows_written}
+use Rattle.bind_write.specs.Meaning.{target_of}
 use Rattle.med_catalog.specs.Objects.{ServerObject, TableObject, Objects, server_named, table_named}
 use Rattle.med_binder.specs.Places.{Attached}
 use Rattle.sql_meaning.specs.World.{World, standing, is_shared_server, is_shared, rows_with, rows_named, holding_at, holds_at, with_state}

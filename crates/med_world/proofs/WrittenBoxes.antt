@@ -20,9 +20,9 @@ use Rattle.med_exec.specs.Running.{HasFailed}
 use Rattle.med_exec.proofs.Served.{honest_on, ServedAlone}
 use Rattle.med_write.specs.declared.write.WrittenColumn.{WrittenColumn}
 use Rattle.med_write.specs.Form.{WriteForm, insert_form, update_form, delete_form}
-use Rattle.write_exec.specs.Reading.{are_typed}
-use Rattle.write_exec.specs.Writing.{CanWrite, scans_of, AreRead, Writes, Bars, lacks_memory, source_fails, gives_twice, numbers_end, write_shows, kind_refuses, RefusesWrite}
-use Rattle.write_exec.proofs.ChangesFit.{changes_fit}
+use Rattle.med_exec.specs.WriteReading.{are_typed}
+use Rattle.med_exec.specs.Writing.{CanWrite, scans_of, AreRead, Writes, Bars, lacks_memory, source_fails, gives_twice, numbers_end, write_shows, kind_refuses, RefusesWrite}
+use Rattle.med_exec.proofs.ChangesFit.{changes_fit}
 use Rattle.sql_meaning.specs.Picks.{as_given}
 use Rattle.med_world.specs.Engine.{Rises}
 use Rattle.med_world.proofs.AnyRows.{all_come}
@@ -100,7 +100,7 @@ written_rises columns w answer old t count new h = record {
   nature = h.nature;
   next = (let e : new.ledger.next ≡ old.ledger.next + scans_of w = ap (λ (l : Ledger). l.next) h.ledger in omega (arith, e));
   end = h.stays;
-  pulled = subst (λ (n : ℕ). min old.ledger.pulled (2 ^ 64 - 1) ≤ n) (sym (ap (λ (l : Ledger). l.pulled) h.ledger)) (pulled_rises (length h.read) old.ledger.pulled);
+  pulled = subst (λ (n : ℕ). min old.ledger.pulled (2 ^ 64 - 1) ≤ n) (sym (ap (λ (l : Ledger). l.pulled) h.ledger)) (pulled_rises h.given old.ledger.pulled);
   faults = (let e : new.ledger.faults ≡ old.ledger.faults = ap (λ (l : Ledger). l.faults) h.ledger in omega (arith, e));
 }
 
@@ -137,7 +137,7 @@ written_box_sound columns w answer old t count new sound can h = record {
     now : BoxState
     now = record {
       nature = old.nature;
-      ledger = record old.ledger { next = old.ledger.next + scans_of w; pulled = pulled_after (length h.read) old.ledger.pulled; staged = Some staging };
+      ledger = record old.ledger { next = old.ledger.next + scans_of w; pulled = pulled_after h.given old.ledger.pulled; staged = Some staging };
       content = old.content;
     }
 
@@ -168,7 +168,7 @@ written_box_sound columns w answer old t count new sound can h = record {
       nature = h.nature;
       staging = staging;
       is_staged = refl;
-      ledger = h.ledger ∙ ap (λ (s : Option Staging). record old.ledger { next = old.ledger.next + scans_of w; pulled = pulled_after (length h.read) old.ledger.pulled; staged = s }) can.can.not_staged;
+      ledger = h.ledger ∙ ap (λ (s : Option Staging). record old.ledger { next = old.ledger.next + scans_of w; pulled = pulled_after h.given old.ledger.pulled; staged = s }) can.can.not_staged;
       content = λ honest. now_written (written honest);
     }
       where

@@ -1,25 +1,19 @@
 -- What the engine's statements on objects do, and why they are refused.
 use Rattle.std.specs.Prelude.{◌≡◌, ◌≤◌, ℕ, false}
 use Rattle.med_value.specs.declared.cause.Cause.{Cause}
-use Rattle.med_value.specs.declared.cause.Cause.TheVariants.{UnableToConnect, OutOfMemory, SourceFault}
+use Rattle.med_value.specs.declared.cause.Cause.TheVariants.{UnableToConnect, OutOfMemory}
 use Rattle.med_syntax.specs.Tree.{Name}
 use Rattle.fdw_api.specs.State.{BoxState}
 use Rattle.fdw_api.specs.Calls.{Binds, Unbinds, RefusesBind}
 use Rattle.fdw_api.specs.declared.interface.Fault.{Fault}
-use Rattle.fdw_api.specs.declared.interface.Fault.TheVariants.{NoMemory, Source, Refused}
 use Rattle.med_exec.specs.Slots.{ChangesAt}
 use Rattle.med_syntax.specs.DdlTree.{DdlTree}
 use Rattle.med_catalog.specs.Objects.{ServerObject, TableObject}
 use Rattle.med_catalog.specs.Changes.{ObjectChange, new_server, new_table, Asks}
-use Rattle.med_catalog.specs.DdlCauses.{DdlCauses}
+use Rattle.med_catalog.specs.DdlCauses.{DdlCauses, phase}
 use Rattle.sql_meaning.specs.World.{is_taken}
-use Rattle.sql_meaning.specs.Causes.{phase}
 use Rattle.med_world.specs.Engine.{Shown, leased, IsServerAt, IsStandingAt, Alters}
-
-abbrev pub cause_of : Fault → Cause
-cause_of NoMemory = OutOfMemory
-cause_of Source = SourceFault
-cause_of (Refused c) = c
+use Rattle.med_world.specs.Fetching.{cause_of}
 
 -- the source that a new server names stands in this place, is of its kind, and no server has taken it
 pub record IsFreeAt (e : Shown) (s : ServerObject) (place : ℕ) : Type 0 where

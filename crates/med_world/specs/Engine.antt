@@ -28,13 +28,13 @@ use Rattle.med_parser.specs.CommandGrammar.{HasCommand}
 use Rattle.med_catalog.specs.Options.{table_settings, column_settings}
 use Rattle.med_catalog.specs.DdlCauses.{Stands, create_table_rows}
 use Rattle.med_catalog.specs.Changes.{AreDeclared, ObjectChange, new_table, no_server, no_table, changed}
-use Rattle.open_cursors.specs.Counted.{ReadsTables}
-use Rattle.open_cursors.specs.Fetching.{HasRisen, PullsFetched}
-use Rattle.open_cursors.specs.Open.{Opened, Seated, leases_table, any_leases}
+use Rattle.med_world.specs.Counted.{ReadsTables}
+use Rattle.med_world.specs.Fetching.{HasRisen, PullsFetched}
+use Rattle.med_world.specs.Open.{Opened, Seated, leases_table, any_leases}
 use Rattle.sql_meaning.specs.World.{World, Cursor, Session, Source, SourceState, standing, shared, dropped, with_session, without_sessions, beside_without}
 use Rattle.sql_meaning.specs.Cursors.{cursor_named, IsBareQuery}
 use Rattle.med_world.specs.Selecting.{PullsAgreed}
-use Rattle.open_cursors.specs.Starting.{OpensEach}
+use Rattle.med_world.specs.Starting.{OpensEach}
 use Rattle.med_world.specs.Seats.{seat_of, asked_of, opened_at, IsOpenAt, AreSoundSeats, SeatAgrees}
 use Rattle.sql_meaning.specs.Steps.{Trouble, Step}
 use Rattle.sql_meaning.specs.Replies.{Reply, done, answered, refused, reply_text}
@@ -350,13 +350,6 @@ pub record ClosesAll (old new : Shown) : Type 0 where
 -- the engine with this change of the catalogue
 abbrev pub with_change : Shown → ObjectChange → Shown
 with_change e change = record e { catalog = changed change e.catalog }
-
--- the change is of the catalogue alone
-abbrev pub IsOfCatalog : ObjectChange → Type 0
-IsOfCatalog (new_table t) = ⊥
-IsOfCatalog (no_table name) = ⊥
-IsOfCatalog (no_server name) = ⊥
-IsOfCatalog other = Unit {0}
 
 -- the first table of this name stands in this place
 abbrev pub IsFirst : Name → List TableObject → ℕ → Type 0

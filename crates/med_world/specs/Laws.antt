@@ -8,7 +8,7 @@ use Rattle.med_parser.specs.CommandCauses.{SyntaxCauses}
 use Rattle.fdw_api.specs.State.{BoxState}
 use Rattle.med_catalog.specs.Objects.{no_objects}
 use Rattle.sql_meaning.specs.Requests.{IsSid}
-use Rattle.open_cursors.specs.Open.{Seated}
+use Rattle.med_world.specs.Open.{Seated}
 use Rattle.med_world.specs.Seats.{user_of}
 use Rattle.med_world.specs.Engine.{Shown}
 

@@ -1,3 +1,7 @@
+pub mod Open
+pub mod Counted
+pub mod Starting
+pub mod Fetching
 pub mod Seats
 pub mod Selecting
 pub mod Engine

@@ -8,7 +8,7 @@ use Rattle.scan_loops.specs.Running.{HonestFor}
 use Rattle.med_exec.specs.Pulling.{levels_in, GivesAsTheyCome}
 use Rattle.med_exec.specs.Rests.{Rests}
 use Rattle.med_catalog.specs.Objects.{table_named}
-use Rattle.open_cursors.specs.Open.{Opened, Seated, AreNamedApart, opened_named}
+use Rattle.med_world.specs.Open.{Opened, Seated, AreNamedApart, opened_named}
 use Rattle.med_value.specs.Limits.{cursor_limit}
 use Rattle.sql_meaning.specs.World.{World, Leased, Cursor, Session, cells_of, rows_named}
 use Rattle.sql_meaning.specs.Cursors.{rows_leased, IsBareQuery}

@@ -14,8 +14,8 @@ use Rattle.med_exec.specs.BoundPulling.{PullsRows}
 use Rattle.med_query.specs.Causes.{IsShownCause}
 use Rattle.med_planner.specs.Planned.{entry_rows}
 use Rattle.med_exec.specs.Running.{AllServed, HonestOver}
-use Rattle.open_cursors.specs.Counted.{ReadsTables}
-use Rattle.open_cursors.specs.Starting.{RunFails}
+use Rattle.med_world.specs.Counted.{ReadsTables}
+use Rattle.med_world.specs.Starting.{RunFails}
 use Rattle.med_binder.specs.Queries.{meant_by, IsBindable, NotBound}
 use Rattle.med_binder.specs.Places.{Attached, ArePlaces}
 use Rattle.med_catalog.specs.Objects.{Objects}

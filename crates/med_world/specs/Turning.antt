@@ -7,8 +7,8 @@ use Rattle.fdw_api.specs.State.{BoxState}
 use Rattle.med_exec.specs.declared.running.Run.{Run}
 use Rattle.med_exec.specs.Running.{ServesRun, none_held}
 use Rattle.med_exec.specs.Rests.{held}
-use Rattle.open_cursors.specs.Open.{Opened, Seated}
-use Rattle.open_cursors.specs.Starting.{leases_of}
+use Rattle.med_world.specs.Open.{Opened, Seated}
+use Rattle.med_world.specs.Starting.{leases_of}
 use Rattle.med_world.specs.Engine.{Shown}
 
 -- the cursor that DECLARE opens

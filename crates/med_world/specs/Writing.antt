@@ -18,14 +18,14 @@ use Rattle.med_binder.specs.Queries.{meant_by}
 use Rattle.med_binder.specs.Tables.{shapes}
 use Rattle.med_write.specs.declared.write.WrittenColumn.{WrittenColumn}
 use Rattle.med_write.specs.Form.{WriteForm}
-use Rattle.write_exec.specs.Writing.{CanWrite, Writes, RefusesWrite}
-use Rattle.write_parts.specs.Meaning.{target_of, columns_in, written_column, write_meant}
+use Rattle.med_exec.specs.Writing.{CanWrite, Writes, RefusesWrite}
+use Rattle.bind_write.specs.Meaning.{target_of, columns_in, written_column, write_meant}
 use Rattle.bind_write.specs.Binding.{IsBindable, NotBound}
 use Rattle.sql_meaning.specs.Causes.{query_of, OfQuery}
 use Rattle.sql_meaning.specs.Sizes.{is_large_form}
-use Rattle.med_world.specs.Altering.{cause_of}
-use Rattle.open_cursors.specs.Counted.{ReadsTables}
-use Rattle.open_cursors.specs.Starting.{RunFails}
+use Rattle.med_world.specs.Fetching.{cause_of}
+use Rattle.med_world.specs.Counted.{ReadsTables}
+use Rattle.med_world.specs.Starting.{RunFails}
 use Rattle.med_world.specs.Selecting.{AnswersOver}
 
 -- ---- the query of an INSERT

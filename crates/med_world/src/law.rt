@@ -2,7 +2,7 @@
 //! it shows after it, for every world that agrees.
 #![tactic(auto)]
 
-ghost use Rattle.std.specs.Prelude.{◌≡◌, ◌≢◌, ◌<◌, ◌-◌, ◌⊎◌, ℕ, Bool, true, false, List, [], ◌∷◌, ◌++◌, Contains, Option, Some, None, is_some, length, slice_get, slice_set, replicate, codes};
+ghost use Rattle.std.specs.Prelude.{◌≡◌, ◌-◌, ◌⊎◌, ℕ, Bool, true, false, List, [], ◌∷◌, ◌++◌, Contains, Option, Some, None, is_some, length, slice_get, slice_set, replicate, codes};
 ghost use Rattle.med_value.specs.Datum.{Tuple};
 ghost use Rattle.med_value.specs.declared.cause.Cause.{Cause as AnyCause};
 ghost use Rattle.med_value.specs.declared.cause.Cause.TheVariants.{OutOfMemory, Protocol, NoConnection, InUse, DuplicateCursor, InvalidCursorName};
@@ -11,18 +11,18 @@ ghost use Rattle.med_query.specs.Query.{IsAnswer};
 ghost use Rattle.med_syntax.specs.QueryTree.{SelectTree, select};
 ghost use Rattle.med_syntax.specs.DdlTree.{DdlTree};
 ghost use Rattle.med_syntax.specs.WriteTree.{WriteTree};
-ghost use Rattle.write_parts.specs.Meaning.{target_of};
+ghost use Rattle.bind_write.specs.Meaning.{target_of};
 ghost use Rattle.med_syntax.specs.CursorTree.{CountTree, CursorTree, declare, fetch, close};
-ghost use Rattle.med_parser.specs.CommandTree.{CommandTree, on_data, on_rows, on_cursors, on_objects};
+ghost use Rattle.med_parser.specs.CommandTree.{on_data, on_rows, on_cursors, on_objects};
 ghost use Rattle.med_parser.specs.CommandCauses.{SyntaxCauses};
 ghost use Rattle.fdw_api.specs.State.{BoxState, IsIdle};
 ghost use Rattle.fdw_api.specs.Calls.{CanBind, CanUnbind, NoScan};
 ghost use Rattle.med_exec.specs.Slots.{BoxAt};
 ghost use Rattle.med_exec.specs.Running.{ServesRun, none_held};
 ghost use Rattle.med_exec.specs.declared.running.Run.{Run};
-ghost use Rattle.open_cursors.specs.Open.{Opened, Seated, is_full, opened_named, without_named, with_run, held_by, AreHeld, AreOwn, all_cursors};
-ghost use Rattle.open_cursors.specs.Starting.{Starts, StartFails};
-ghost use Rattle.open_cursors.specs.Fetching.{GivesRows, GivesNone, HasRisen, PullsFetched, PullsEnded};
+ghost use Rattle.med_world.specs.Open.{Opened, Seated, is_full, opened_named, without_named, with_run, held_by, AreHeld, AreOwn, all_cursors};
+ghost use Rattle.med_world.specs.Starting.{Starts, StartFails};
+ghost use Rattle.med_world.specs.Fetching.{GivesRows, GivesNone, HasRisen, PullsFetched, PullsEnded};
 ghost use Rattle.med_catalog.specs.Objects.{TableObject, Objects};
 ghost use Rattle.med_catalog.specs.Changes.{ObjectChange, new_table, no_table, no_server, Asks};
 ghost use Rattle.med_catalog.specs.DdlCauses.{IsTold as IsToldBy, NoneStands, nothing_leased, ddl_rows};
@@ -122,7 +122,7 @@ pub fn statements_are_refused()
 {
     med_binder::law::causes_have_their_phase();
     med_catalog::law::causes_have_their_phase();
-    write_parts::law::causes_have_their_phase();
+    bind_write::parts_law::causes_have_their_phase();
 }
 
 /// Where a cause of syntax stands against a text, what is picked does not matter: the cause that is told under one pick is told under every
@@ -133,7 +133,7 @@ pub fn syntax_asks_no_pick()
 {
     med_binder::law::causes_have_their_phase();
     med_catalog::law::causes_have_their_phase();
-    write_parts::law::causes_have_their_phase();
+    bind_write::parts_law::causes_have_their_phase();
 }
 
 /// A query that is answered, or refused.
@@ -166,7 +166,7 @@ pub fn writes_lead()
     ensures refused_sound { (e : Shown) (new : List (Option BoxState)) (user : Name) (t : WriteTree) (c : AnyCause)
         → IsSound e → WriteFails e.catalog user e.bound t (leased e (target_of t)) e.boxes c new → IsSound (with_boxes e new) }
 {
-    write_parts::law::causes_have_their_phase();
+    bind_write::parts_law::causes_have_their_phase();
 }
 
 /// DECLARE, FETCH and CLOSE, done or refused. A FETCH that fails takes its cursor away.

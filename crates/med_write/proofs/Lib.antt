@@ -1,3 +1,4 @@
 pub mod CellSteps
 pub mod RowSteps
 pub mod WholeWrites
+pub mod RowsOut

@@ -44,9 +44,6 @@ makes_push columns made change ys y old new r inv row more =
       complete = ap (list_any (lacks_value columns)) (map-append made ys (y ∷ [])) ∙ list_any-append (lacks_value columns) (map made ys) (made y ∷ []) ∙ rw (inv.complete, row.complete) refl;
     }
 
-pub makes_none : {V : Type 0} (columns : List WrittenColumn) (made : V → List Outcome) (change : V → Tuple → Change) → Makes columns made change [] []
-makes_none columns made change = record { are = refl; no_fault = refl; complete = refl }
-
 pub makes_more : {X V : Type 0} (view : X → V) (columns : List WrittenColumn) (made : V → List Outcome) (change : V → Tuple → Change) (xs : List X) (i : ℕ) (d : X) (old new : List Change) (r : Tuple) → i < length xs → d ≡ get_or xs i d → IsRow columns (made (view d)) r → new ≡ old ++ change (view d) r ∷ [] → Makes columns made change (map view (take i xs)) old → Makes columns made change (map view (take (i + 1) xs)) new
 makes_more view columns made change xs i d old new r lt e row more inv =
     let grown : map view (take (i + 1) xs) ≡ map view (take i xs) ++ view d ∷ [] = map_more view xs i d lt ∙ ap (λ x. map view (take i xs) ++ view x ∷ []) (sym e) in

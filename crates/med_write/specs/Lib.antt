@@ -1,3 +1,4 @@
 pub mod Form
 pub mod Writing
 pub mod Making
+pub mod Laws

@@ -74,7 +74,8 @@ fn delete(
 }
 
 /// The changes that a write asks of a source (SQL standard, <insert statement>, <update statement: searched>,
-/// <delete statement: searched>), from all rows of its table and the rows of an INSERT's query, both as they were before it.
+/// <delete statement: searched>), from the rows of its table and the rows of an INSERT's query, both as they were before it. Rows of its
+/// table may be missing of which a conjunct of WHERE is false or unknown ([`crate::law::rows_out_change_nothing`]).
 ///
 /// An INSERT adds a row for each given one. An UPDATE makes each row of which WHERE is true anew, each cell by SET on the old row or the
 /// old cell. A DELETE takes out the rows of which WHERE is true. They are as many as the rows that the write is told of, and come only

@@ -5,6 +5,7 @@
 mod cells;
 pub mod changing;
 mod choosing;
+pub mod law;
 mod making;
 pub mod write;
 

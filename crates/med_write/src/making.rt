@@ -3,8 +3,6 @@ ghost use Rattle.std.specs.Prelude.{◌≡◌, ◌∷◌, ◌++◌, [], IfOk, If
 ghost use Rattle.med_value.specs.Datum.{tuple};
 ghost use Rattle.tri_expr.specs.Tree.{tree};
 ghost use Rattle.tri_expr.specs.Outcome.{Outcome};
-ghost use Rattle.tri_expr.specs.Verdict.{fault_list};
-ghost use Rattle.med_query.specs.Query.{IsTold};
 ghost use Rattle.fdw_api.specs.Kinds.{Inserts, Updates, Deletes};
 ghost use Rattle.fdw_api.specs.Calls.{row_of};
 ghost use Rattle.med_write.specs.Form.{trees_of, change_of};

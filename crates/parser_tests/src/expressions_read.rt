@@ -1,6 +1,6 @@
 //! Expressions read and written out.
 use crate::rows::{Answer, assert_row, assert_rows};
-use expr_parser::{expression, print_expression};
+use crate::{expression, print_expression};
 use med_syntax::is_reserved;
 use std::alloc::Global;
 use std::test::Fail;

@@ -5,12 +5,12 @@ use std::alloc::Global;
 use std::test::Fail;
 
 /// A token: its kind, what it says, and the bytes that it covers.
-fn shown_token(alloc: Global, token: &Token) -> Result<String, Fail> {
+fn shown_token(alloc: Global, token: &Token<'_>) -> Result<String, Fail> {
     let (kind, said) = match &token.kind {
         TokenKind::Word(said) => ("word", said.as_str()),
         TokenKind::Quoted(said) => ("quoted", said.as_str()),
         TokenKind::Literal(said) => ("text", said.as_str()),
-        TokenKind::Number(said) => ("number", said.as_str()),
+        TokenKind::Number(said) => ("number", *said),
         TokenKind::Mark(mark) => ("mark", mark.as_str()),
     };
     Ok(format!(in alloc; "{kind} {said} {}..{}|", token.start, token.end)?)

@@ -15,7 +15,7 @@ use Rattle.fdw_api.specs.Calls.{Allows, CanUnbind, Unbinds, Picks, NoScan}
 use Rattle.fdw_api.specs.Writes.{row_of_change_fits}
 use Rattle.blob_store.specs.Names.{is_blob_name}
 use Rattle.blob_store.specs.Shelves.{Shelf, Standing, Known as KnownBlob, Unknown as UnknownBlob, Finds}
-use Rattle.staged_changes.specs.declared.changes.StagedWrite.{StagedWrite}
+use Rattle.wrapper_parts.specs.declared.changes.StagedWrite.{StagedWrite}
 use Rattle.place_wrapper.specs.Holdings.{holding_of, held_under}
 use Rattle.place_wrapper.specs.Mapped.{mapped, live_at}
 use Rattle.place_wrapper.proofs.Maps.{mapped_get}
@@ -31,10 +31,6 @@ both false b e = absurd cc
 none_is : {A : Type 0} (o : Option A) → o ≡ None → IsSome o → ⊥
 none_is None a b = cc
 none_is (Some x) a b = cc
-
-none_some : {A : Type 0} (o : Option A) (x : A) → o ≡ None → o ≡ Some x → ⊥
-none_some None x a b = cc
-none_some (Some y) x a b = cc
 
 -- the tables are as before, but for one place
 abbrev pub Others : {T : Type 0} → List (Option T) → List (Option T) → ℕ → Type 0
@@ -154,11 +150,6 @@ module _ {T : Type 0} (F : Form T) where
       split : (q : ℕ) → ((eqb q at ≡ true) × (q ≡ at)) ⊎ ((eqb q at ≡ false) × (q ≢ at)) → option_map F.bound (table_at new q) ≡ option_map F.bound (table_at old q)
       split q (inl s) = rw (s.1, there, was) (ap Some equal)
       split q (inr s) = ap (option_map F.bound) (same q s.1)
-
-  pub ledger_same : (shelf : Shelf) (old new : List (Option T)) (m : List (ℕ × LiveScan)) (staged : Option StagedWrite) (next pulled : ℕ) → SameTables old new → place_ledger F shelf new m staged next pulled ≡ place_ledger F shelf old m staged next pulled
-  ledger_same shelf old new m staged next pulled same =
-      ap (λ (f : ℕ → Option BoxTable). record (place_ledger F shelf new m staged next pulled) { tables = f }) (λ i q. ap (option_map F.bound) (same q) i)
-      ∙ ap (λ (f : LiveScan → Scan). record (place_ledger F shelf old m staged next pulled) { live = mapped f m }) (λ i s. ap (λ (k : Option T). record (scan_is F old s) { kinds = kinds_held F k }) (same s.table) i)
 
   pub bound_there : (o : Option T) → IsSome (option_map F.bound o) → (x : T) × (o ≡ Some x)
   bound_there None e = absurd cc

@@ -19,11 +19,11 @@ use Rattle.fdw_api.specs.declared.interface.Fault.{Fault}
 use Rattle.fdw_api.specs.declared.interface.Fault.TheVariants.{NoMemory}
 use Rattle.fdw_api.specs.declared.interface.SourceRow.{SourceRow}
 use Rattle.blob_store.specs.Shelves.{Shelf}
-use Rattle.staged_changes.specs.declared.changes.StagedWrite.{StagedWrite}
+use Rattle.wrapper_parts.specs.declared.changes.StagedWrite.{StagedWrite}
 use Rattle.place_wrapper.specs.Mapped.{mapped, live_at, Updates}
 use Rattle.place_wrapper.proofs.Maps.{mapped_get, mapped_insert, mapped_put_back, mapped_remove, apart}
-use Rattle.place_index.specs.declared.index.PlaceIndex.{PlaceIndex}
-use Rattle.place_index.specs.Scans.{Serves, Stands}
+use Rattle.wrapper_parts.specs.declared.index.PlaceIndex.{PlaceIndex}
+use Rattle.wrapper_parts.specs.Scans.{Serves, Stands}
 use Rattle.place_wrapper.specs.declared.scans.LiveScan.{LiveScan}
 use Rattle.place_wrapper.specs.Forms.{Form}
 use Rattle.place_wrapper.specs.Boxes.{rows_to_come, NextIs, table_at, kinds_held, rows_held, scan_is, scan_rows, ScanFits, ScansFit, Pulls, pulled_after, Restarts, newer}
@@ -171,10 +171,6 @@ module _ {T : Type 0} (F : Form T) where
     where
       scan_same : (s : LiveScan) (t : ℕ) (spec : Spec) (params : Tuple) → s.table ≡ t → spec_of s.spec ≡ spec → map datum s.params.items ≡ params → s.broken ≡ false → scan_is F tables s ≡ new_scan t (kinds_held F (table_at tables t)) spec params (2 ^ 64 - s.at)
       scan_same s t spec params et es ep eb = rw (es, ep, et, eb) refl
-
-  held_fit : (o : Option T) → list_all (λ (r : TableRow). row_fits (kinds_held F o) r.cells) (rows_held F o) ≡ true
-  held_fit None = refl
-  held_fit (Some t) = F.typed t
 
   row_typed : (o : Option T) (spec : Spec) (params : Tuple) (at : ℕ) (row : GivenRow) (rest : List GivenRow) → ShowsTyped → rows_to_come F o spec params at ≡ row ∷ rest → shown_fits (kinds_held F o) spec row.cells ≡ true
   row_typed None spec params at row rest shows e = absurd cc

@@ -1,18 +1,17 @@
 -- What a bind that reads a table and the end of a write do to a wrapper over tables by place.
-use Rattle.std.proofs.Common.{◌≡◌, ◌≢◌, ℕ, Bool, true, if◌then◌else◌, List, [], Option, Some, None, map, option_map, Contains, refl, ap, sym, ◌∙◌, subst}
+use Rattle.std.proofs.Common.{◌≡◌, ◌≢◌, ℕ, Bool, true, if◌then◌else◌, List, [], Option, Some, None, map, option_map, Contains, refl, ap, sym, ◌∙◌, subst, nat_eq}
 use Rattle.std.specs.List.{IsDistinct}
-use Rattle.std.proofs.Common.{nat_eq}
-use Rattle.fdw_api.specs.Kinds.{Column, OptionForm, Entry, Bytes, Held, held, Holding, Known, Unknown, is_of_run}
+use Rattle.fdw_api.specs.Kinds.{Column, OptionForm, Entry, Bytes, Held, held, Holding, Known, Unknown}
 use Rattle.fdw_api.specs.Scan.{TableRow}
 use Rattle.fdw_api.specs.State.{BoxTable, Staging}
 use Rattle.fdw_api.specs.Calls.{Binds, NoScan, Picks}
-use Rattle.fdw_api.specs.Writes.{CanClose, Closes, RefusesClose, CloseCause, HoldsImage}
+use Rattle.fdw_api.specs.Writes.{CanClose, Closes, RefusesClose, HoldsImage}
 use Rattle.fdw_api.specs.declared.interface.Fault.{Fault}
 use Rattle.fdw_api.specs.declared.interface.Fault.TheVariants.{NoMemory, Source, Refused}
 use Rattle.blob_store.specs.Names.{is_blob_name}
 use Rattle.blob_store.specs.Shelves.{Shelf, Standing, Known as KnownBlob, Unknown as UnknownBlob, Finds, Replaces, after_writing}
-use Rattle.staged_changes.specs.declared.changes.StagedWrite.{StagedWrite}
-use Rattle.staged_changes.specs.Staged.{change_is, write_is}
+use Rattle.wrapper_parts.specs.declared.changes.StagedWrite.{StagedWrite}
+use Rattle.wrapper_parts.specs.Staged.{change_is, write_is}
 use Rattle.place_wrapper.specs.Holdings.{holding_of, held_under}
 use Rattle.place_wrapper.specs.declared.scans.LiveScan.{LiveScan}
 use Rattle.place_wrapper.specs.Forms.{Form, ReadsAs, Rewrites, RefusesChanges}

@@ -68,11 +68,3 @@ pub mapped_len : {X Y : Type 0} (f : X → Y) (least next : ℕ) (es : List (ℕ
 mapped_len f least next [] h = finmap.len-empty nat_cmp _
 mapped_len f least next (e ∷ es) h =
     new_len (mapped f es) e.0 (f e.1) (get-from_entries nat_cmp_total (map (λ e. (e.0, f e.1)) es) e.0 ∙ find_none f e.0 (e.0 + 1) next es (omega arith) h.1) ∙ (let r = mapped_len f (e.0 + 1) next es h.1 in omega arith)
-
--- two meanings that agree on what a map holds give one finite map
-pub mapped_same : {X Y : Type 0} (f g : X → Y) (m : List (ℕ × X)) → ((q : ℕ) (x : X) → live_at m q ≡ Some x → f x ≡ g x) → mapped f m ≡ mapped g m
-mapped_same {X} {Y} f g m agree = finmap.same_map nat_cmp_total nat_cmp-IsAntisymmetric _ _ (λ q. mapped_get f m q ∙ at (live_at m q) (agree q) ∙ sym (mapped_get g m q))
-  where
-    at : (o : Option X) → ((x : X) → o ≡ Some x → f x ≡ g x) → option_map f o ≡ option_map g o
-    at None h = refl
-    at (Some x) h = ap (λ (y : Y). Some y) (h x refl)

@@ -1,6 +1,5 @@
 -- Tables by place, and what live scans have still to give.
-use Rattle.std.specs.Prelude.{◌≡◌, ◌<◌, ◌≤◌, ◌+◌, ◌-◌, ◌^◌, ◌&&◌, is_some, IsSome, ℕ, Bool, true, List, [], ◌∷◌, length, map, filter}
-use Rattle.std.specs.Prelude.{drop, Option, Some, None, slice_get, Result, Ok, Err, Vec}
+use Rattle.std.specs.Prelude.{◌≡◌, ◌<◌, ◌≤◌, ◌+◌, ◌-◌, ◌^◌, ◌&&◌, is_some, IsSome, ℕ, Bool, true, List, [], ◌∷◌, length, map, filter, drop, Option, Some, None, slice_get, Result, Ok, Err, Vec}
 use Rattle.std.specs.Global.{Global}
 use Rattle.std.specs.List.{list_all}
 use Rattle.std.specs.Option.{option_flatten}
@@ -12,8 +11,8 @@ use Rattle.fdw_api.specs.State.{Scan, Staging}
 use Rattle.fdw_api.specs.Calls.{row_of, bumped}
 use Rattle.fdw_api.specs.Writes.{row_of_change_fits}
 use Rattle.fdw_api.specs.declared.interface.SourceRow.{SourceRow}
-use Rattle.place_index.specs.declared.index.PlaceIndex.{PlaceIndex}
-use Rattle.place_index.specs.Scans.{Serves, Stands}
+use Rattle.wrapper_parts.specs.declared.index.PlaceIndex.{PlaceIndex}
+use Rattle.wrapper_parts.specs.Scans.{Serves, Stands}
 use Rattle.place_wrapper.specs.declared.scans.LiveScan.{LiveScan}
 use Rattle.place_wrapper.specs.Forms.{Form}
 use Rattle.place_wrapper.specs.Mapped.{live_at}

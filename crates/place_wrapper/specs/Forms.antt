@@ -14,8 +14,8 @@ use Rattle.fdw_api.specs.Writes.{rows_after}
 use Rattle.fdw_api.specs.declared.scan.Agree.{Agree}
 use Rattle.fdw_api.specs.declared.interface.Fault.{Fault}
 use Rattle.fdw_api.specs.declared.interface.Fault.TheVariants.{NoMemory, Source, Refused}
-use Rattle.place_index.specs.Places.{equals}
-use Rattle.place_index.specs.Scans.{SoughtForm, sought}
+use Rattle.wrapper_parts.specs.Places.{equals}
+use Rattle.wrapper_parts.specs.Scans.{SoughtForm, sought}
 
 -- the ids of rows are their places, the first of which is n
 abbrev pub IsNumbered : ℕ → List TableRow → Type 0

@@ -5,8 +5,8 @@ use Rattle.fdw_api.specs.State.{Ledger, BoxState, IsIdle, is_honest}
 use Rattle.blob_store.specs.Shelves.{Shelf}
 use Rattle.place_wrapper.specs.Holdings.{held_under}
 use Rattle.place_wrapper.specs.Mapped.{mapped, live_at}
-use Rattle.staged_changes.specs.declared.changes.StagedWrite.{StagedWrite}
-use Rattle.staged_changes.specs.Staged.{write_is}
+use Rattle.wrapper_parts.specs.declared.changes.StagedWrite.{StagedWrite}
+use Rattle.wrapper_parts.specs.Staged.{write_is}
 use Rattle.place_wrapper.specs.declared.scans.LiveScan.{LiveScan}
 use Rattle.place_wrapper.specs.Forms.{Form}
 use Rattle.place_wrapper.specs.Boxes.{table_at, rows_held, scan_is, scan_rows}

@@ -1,21 +1,19 @@
 //! Formats: what a blob is read as, and the rows that a table gives.
 ghost use Rattle.std.specs.Prelude.{◌≡◌, ◌<◌, ℕ, List, map, length, option_map, IfOk, IfErr, Some, [], true};
-ghost use Rattle.std.specs.String.{string_bytes};
 ghost use Rattle.std.specs.List.{list_all};
 ghost use Rattle.med_value.specs.Datum.{datum};
 ghost use Rattle.fdw_api.specs.Scan.{restriction_form, spec_of};
 ghost use Rattle.fdw_api.specs.Kinds.{column_of, option_form};
 ghost use Rattle.fdw_api.specs.Writes.{row_of_change_fits};
 ghost use Rattle.blob_store.specs.Names.{is_blob_name};
-ghost use Rattle.staged_changes.specs.Staged.{change_is};
-ghost use Rattle.place_index.specs.Scans.{sought, form_of};
+ghost use Rattle.wrapper_parts.specs.Staged.{change_is};
+ghost use Rattle.wrapper_parts.specs.Scans.{sought, form_of};
 
 use fdw_api::interface::{Fault, TableOption};
 use fdw_api::scan::{Agree, Restriction, ScanSpec};
 use med_value::{ColumnDef, NoMemory, Row, Value};
-use place_index::Sought;
-use staged_changes::RowChange;
 use std::alloc::Global;
+use wrapper_parts::{RowChange, Sought};
 
 /// A table that a blob was read as: it has rows at places, the first at 0. A kind of file is an implementation of it.
 ///

@@ -4,10 +4,10 @@ ghost use Rattle.std.specs.Prelude.{option_map, IfOk, IfErr, IfSome, IsSome, Opt
 ghost use Rattle.med_value.specs.Datum.{datum};
 ghost use Rattle.fdw_api.specs.Scan.{spec_of, restriction_form};
 ghost use Rattle.fdw_api.specs.declared.interface.Fault.TheVariants.{NoMemory as OutOfMemory};
-ghost use Rattle.place_index.specs.Scans.{Serves, Stands, sought, form_of, column_cells};
-ghost use Rattle.place_index.specs.Indexes.{IsIndexFrom};
+ghost use Rattle.wrapper_parts.specs.Scans.{Serves, Stands, sought, form_of, column_cells};
+ghost use Rattle.wrapper_parts.specs.Indexes.{IsIndexFrom};
 ghost use Rattle.place_wrapper.specs.Forms.{GivesAt};
-ghost use Rattle.place_index.specs.declared.index.PlaceIndex.{PlaceIndex};
+ghost use Rattle.wrapper_parts.specs.declared.index.PlaceIndex.{PlaceIndex};
 ghost use Rattle.place_wrapper.specs.declared.scans.LiveScan.{LiveScan};
 ghost use Rattle.place_wrapper.specs.Mapped.{live_at, Updates, numbers, Rise};
 ghost use Rattle.place_wrapper.specs.Boxes.{NextIs, Moves, ScanFits, Pulls, Restarts, table_at, rows_held, newer};
@@ -17,8 +17,8 @@ use crate::tables::table_at;
 use fdw_api::interface::{Fault, RowId, SourceRow};
 use fdw_api::scan::ScanSpec;
 use med_value::{NoMemory, Row, Value};
-use place_index::{PlaceIndex, Sought, sought_in, value_at};
 use std::alloc::Global;
+use wrapper_parts::{PlaceIndex, Sought, sought_in, value_at};
 
 /// A live scan: what it was asked for, and the place from which it goes on. Once it is begun again it has an index of the column in which
 /// it looks for a parameter, if there is one. A broken one is good for `end` alone.

@@ -5,7 +5,7 @@ ghost use Rattle.fdw_api.specs.Kinds.{Entry, Known};
 ghost use Rattle.fdw_api.specs.declared.interface.Fault.TheVariants.{NoMemory as OutOfMemory};
 ghost use Rattle.blob_store.specs.Names.{is_blob_name};
 ghost use Rattle.place_wrapper.specs.Holdings.{held_under};
-ghost use Rattle.staged_changes.specs.Staged.{write_is};
+ghost use Rattle.wrapper_parts.specs.Staged.{write_is};
 ghost use Rattle.place_wrapper.specs.Mapped.{live_at, numbers, Rise, rise_once};
 ghost use Rattle.place_wrapper.specs.Boxes.{table_at, write_fits, ScansFit, pulled_after};
 
@@ -18,8 +18,8 @@ use fdw_api::interface::{Counts, Fault, RowId, SourceRow, TableOption, Ticket, W
 use fdw_api::law::rows_are_typed;
 use fdw_api::scan::{Agree, Agreement, Restriction, ScanSpec, copy_values};
 use med_value::{Cause, ColumnDef, NoMemory, Row, TableNo, Value};
-use staged_changes::{RowChange, StagedWrite, add_change};
 use std::alloc::Global;
+use wrapper_parts::{RowChange, StagedWrite, add_change};
 
 /// Blobs that are read as tables of a format, as a source of foreign tables.
 ///

@@ -16,9 +16,16 @@ use Rattle.fdw_api.specs.declared.interface.Fault.TheVariants.{NoMemory, Source,
 use Rattle.fdw_api.specs.declared.interface.SourceRow.{SourceRow}
 use Rattle.probe_wrapper.specs.declared.failing.Failure.{Failure}
 use Rattle.probe_wrapper.specs.declared.failing.Failure.TheVariants.{Before, Scan, Write, Past}
-use Rattle.probe_wrapper.specs.Failing.{after_call, has_come, is_of, is_write, spoilt, live_of, staging_of, faults_of, failed_ledger, failed, past_scan, past_write}
+use Rattle.probe_wrapper.specs.Failing.{after_call, has_come, is_write, spoilt, live_of, staging_of, faults_of, failed_ledger, failed, past_scan, past_write}
 use Rattle.probe_wrapper.proofs.SeenScans.{Scans, put_same, put_other, taken_same, taken_other}
 use Rattle.probe_wrapper.proofs.RoundLemmas.{some_inj, change_cause, close_cause}
+
+-- the failure broke this scan; it broke the write
+abbrev pub is_of : Failure → ℕ → Bool
+is_of (Before n) q = false
+is_of (Scan n) q = nat_eq q n
+is_of Write q = false
+is_of Past q = false
 
 or_false : (a b : Bool) → (a || b) ≡ false → a ≡ false
 or_false true b e = absurd cc
@@ -145,9 +152,6 @@ same_after s Past = refl
 
 pub moved : (P : BoxState → Type 0) (s : BoxState) (f g : Failure) → g ≡ after_call f → P (failed s g) → P (failed s f)
 moved P s f g e p = subst P (ap (failed s) e ∙ same_after s f) p
-
-pub moved_back : (P : BoxState → Type 0) (s : BoxState) (f g : Failure) → g ≡ after_call f → P (failed s f) → P (failed s g)
-moved_back P s f g e p = subst P (sym (ap (failed s) e ∙ same_after s f)) p
 
 -- what is live or open outside is so inside
 some_seen : (b : Bool) (o : Option LiveScan) → IsSome (option_map (seen b) o) → IsSome o

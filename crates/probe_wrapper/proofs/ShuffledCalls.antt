@@ -7,16 +7,20 @@ use Rattle.fdw_api.specs.Scan.{Spec, GivenRow, IsComing, params_fit, shown_fits}
 use Rattle.fdw_api.specs.Kinds.{Column, OptionForm, Change}
 use Rattle.fdw_api.specs.State.{BoxState, Staging, Scan, IsIdle, scan_of, table_of, rows_of}
 use Rattle.fdw_api.specs.Calls.{bumped, faults_after, row_of, Leaves, NoScan, Allows, Binds, RefusesBind, CanUnbind, Unbinds, Refuses, Begins, RefusesBegin, IsOpen, Iterates, Breaks, CanRescan, Rescans, Ends, new_scan}
-use Rattle.fdw_api.specs.Writes.{CanModify, Opens, RefusesModify, CanChange, Stages, RefusesChange, CanClose, Closes, RefusesClose, Outcome}
+use Rattle.fdw_api.specs.Writes.{CanModify, Opens, RefusesModify, Stages, RefusesChange, CanClose, Closes, RefusesClose, Outcome}
 use Rattle.fdw_api.specs.declared.interface.Fault.{Fault}
 use Rattle.fdw_api.specs.declared.interface.Fault.TheVariants.{NoMemory}
 use Rattle.fdw_api.specs.declared.interface.SourceRow.{SourceRow}
 use Rattle.fdw_api.specs.Wishes.{is_unpromised}
-use Rattle.probe_wrapper.specs.Shuffled.{turned, Turn, unread, turned_rows, turned_coming, left_of, waiting_fits, is_spoilt, seen_scan, seen, reordered_ledger, reordered, Becomes, Stays, is_unread, TakesFirst, TurnsRows, ReadsOut, StopsOut}
+use Rattle.probe_wrapper.specs.Shuffled.{turned, Turn, turned_rows, turned_coming, left_of, waiting_fits, is_spoilt, seen_scan, seen, reordered_ledger, reordered, Becomes, Stays, is_unread, TakesFirst, TurnsRows, ReadsOut, StopsOut}
 use Rattle.probe_wrapper.specs.LiveScans.{round}
 use Rattle.probe_wrapper.proofs.SeenScans.{Scans}
 use Rattle.probe_wrapper.proofs.RoundLemmas.{some_inj, never, bind_cause, change_cause, close_cause, begun_and_ended}
 use Rattle.probe_wrapper.proofs.ShuffledLemmas.{Turns, seen_get, insert_of, change_of, remove_of, keep_of, turned_come, turned_pass, turned_length, turned_nil, nil_turned}
+
+-- a scan that was just begun
+abbrev pub unread : ℕ → Turn
+unread places = record { places = places; waiting = None; broken = false }
 
 -- what is live or open outside is so inside
 some_seen : (t : Option Turn) (o : Option Scan) → IsSome (option_map (seen_scan t) o) → IsSome o
@@ -399,9 +403,6 @@ opens turns p s t n o = record { nature = ap round o.nature; ledger = ap (reorde
 
 pub refuses_modify : (turns : Turns) (p : ℕ) (s t : BoxState) (fault : Fault) → RefusesModify fault s t → RefusesModify fault (reordered s turns p) (reordered t turns p)
 refuses_modify turns p s t fault r = record { refuses = refuses turns p s t fault r.refuses; no_cause = r.no_cause }
-
-pub can_change : (turns : Turns) (p : ℕ) (s : BoxState) (change : Change) → CanChange (reordered s turns p) change → CanChange s change
-can_change turns p s change c = record { staging = c.staging; is_staged = c.is_staged; whole = c.whole; bound = c.bound; is = c.is; fits = c.fits; there = c.there; once = c.once }
 
 pub stages : (turns : Turns) (p : ℕ) (s t : BoxState) (change : Change) → Stages s change t → Stages (reordered s turns p) change (reordered t turns p)
 stages turns p s t change r = record { nature = ap round r.nature; staging = r.staging; is_staged = r.is_staged; ledger = ap (reordered_ledger turns p) r.ledger; leaves = λ h. leaves s t turns p (r.leaves h) }

@@ -1,11 +1,10 @@
 -- What is said of the calls of the inner wrapper is said of those of a shy one, and what a shy box is asked the inner one may be asked.
-use Rattle.std.proofs.Common.{◌≡◌, ◌≢◌, ◌+◌, ◌-◌, ◌^◌, ◌<◌, ℕ, Bool, true, false, List, [], ◌∷◌, ◌++◌, Contains, length, Option, Some, None, IsSome, option_map, refl, ap, sym, ◌∙◌, subst, arith}
+use Rattle.std.proofs.Common.{◌≡◌, ◌≢◌, ◌+◌, ◌-◌, ◌^◌, ◌<◌, ℕ, Bool, true, false, List, [], ◌∷◌, ◌++◌, Contains, Option, Some, None, IsSome, option_map, refl, ap, sym, ◌∙◌, subst, arith}
 use Rattle.std.specs.FinMap as finmap
 use Rattle.med_value.specs.Datum.{Tuple}
 use Rattle.fdw_api.specs.Scan.{Spec, spec_of, RestrictionForm, plain_spec, params_fit, shown_fits}
 use Rattle.fdw_api.specs.declared.scan.ScanSpec.{ScanSpec}
 use Rattle.fdw_api.specs.declared.scan.Agree.{Agree}
-use Rattle.fdw_api.specs.declared.scan.Agree.TheVariants.{Ignored}
 use Rattle.fdw_api.specs.Kinds.{Column, OptionForm, Change, Entry, Held, Holding, Known, Unknown}
 use Rattle.fdw_api.specs.State.{BoxTable, BoxState, Staging, Scan, table_of}
 use Rattle.fdw_api.specs.Calls.{row_of, Picks, NoScan, Allows, CanBind, Binds, RefusesBind, CanUnbind, Unbinds, Refuses, bumped, faults_after, CanBegin, Begins, RefusesBegin, IsOpen, Iterates, Breaks, CanRescan, Rescans, Ends, new_scan}
@@ -13,11 +12,16 @@ use Rattle.fdw_api.specs.Writes.{CanModify, Opens, RefusesModify, CanChange, Sta
 use Rattle.fdw_api.specs.declared.interface.Fault.{Fault}
 use Rattle.fdw_api.specs.declared.interface.Fault.TheVariants.{NoMemory, Source, Refused}
 use Rattle.fdw_api.specs.declared.interface.SourceRow.{SourceRow}
-use Rattle.probe_wrapper.specs.Shy.{all_left, is_plain, is_bare, AskedForm, new_ask, asked_scan, hidden_bound, hidden_ledger, hidden, AsksNow, OffersNothing}
+use Rattle.probe_wrapper.specs.Shy.{all_left, is_plain, is_bare, AskedForm, new_ask, asked_scan, hidden_bound, hidden_ledger, hidden, OffersNothing}
 use Rattle.probe_wrapper.specs.LiveScans.{round}
 use Rattle.probe_wrapper.proofs.SeenScans.{Scans, put_same}
 use Rattle.probe_wrapper.proofs.RoundLemmas.{some_inj, never, bind_cause, begun_and_ended}
 use Rattle.probe_wrapper.proofs.ShyLemmas.{Asks, inner_of, some_of, none_of_none, plain_is_whole, whole_fits, bare_is_whole, bare_offers, bare_fits, plain_come, seen_get, insert_of, change_of, remove_of, keep_of, open_in, seen_at, seen_left, left_seen, table_seen, seen_broken, seen_begun, leaves, tables_set}
+
+-- what is asked for under one number becomes this, and all else is as before
+pub record AsksNow (old : ℕ → Option AskedForm) (number : ℕ) (ask : AskedForm) (new : ℕ → Option AskedForm) : Type 0 where
+  pub now : new number ≡ Some ask
+  pub others : (q : ℕ) → q ≢ number → new q ≡ old q
 
 -- tables
 pub can_bind : (hints : Bool) (s : BoxState) (asked : Asks) (remote : List ℕ) (columns : List Column) (settings : List OptionForm) → CanBind (hidden hints s asked) remote columns settings → CanBind s remote columns settings

@@ -11,11 +11,11 @@ use Rattle.fdw_api.specs.State.{BoxState}
 use Rattle.fdw_api.specs.Calls.{IsOpen, Breaks, CanRescan, Rescans}
 use Rattle.fdw_api.specs.declared.interface.Fault.TheVariants.{NoMemory}
 use Rattle.probe_wrapper.specs.declared.shy.AskedScan.{AskedScan}
-use Rattle.probe_wrapper.specs.Shy.{AskedForm, asked_form, asked_of, hidden, AsksNow}
+use Rattle.probe_wrapper.specs.Shy.{AskedForm, asked_form, asked_of, hidden}
 use Rattle.probe_wrapper.proofs.SeenScans.{apart}
 use Rattle.probe_wrapper.proofs.ShyLemmas.{open_in}
 use Rattle.probe_wrapper.proofs.RoundLemmas.{some_inj}
-use Rattle.probe_wrapper.proofs.ShyCalls.{rescans, spoils}
+use Rattle.probe_wrapper.proofs.ShyCalls.{rescans, spoils, AsksNow}
 
 pub asks_of : (old new : BTreeMap ℕ AskedScan) (number : ℕ) (scan : AskedScan) (ask : AskedForm) → asked_form scan ≡ ask → tree.Updates nat_cmp old new number (Some scan) → AsksNow (asked_of old) number ask (asked_of new)
 asks_of old new number scan ask e u = record {

@@ -31,13 +31,6 @@ has_come (Scan n) = true
 has_come Write = true
 has_come Past = true
 
--- the failure broke this scan; it broke the write
-abbrev pub is_of : Failure → ℕ → Bool
-is_of (Before n) q = false
-is_of (Scan n) q = nat_eq q n
-is_of Write q = false
-is_of Past q = false
-
 abbrev pub is_write : Failure → Bool
 is_write (Before n) = false
 is_write (Scan n) = false

@@ -34,10 +34,6 @@ turn_of t = record { places = t.places; waiting = option_map (λ rows. map row_o
 abbrev pub turns_of : BTreeMap ℕ TurnedScan → ℕ → Option Turn
 turns_of scans q = option_map turn_of (tree.get nat_cmp scans q)
 
--- a scan that was just begun
-abbrev pub unread : ℕ → Turn
-unread places = record { places = places; waiting = None; broken = false }
-
 -- what a scan has still to give, where its inner scan has these rows to give
 abbrev pub turned_rows : ℕ → Option (List GivenRow) → List GivenRow → List GivenRow
 turned_rows places None inner = turned places inner

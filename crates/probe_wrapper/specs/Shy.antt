@@ -1,6 +1,6 @@
 -- What a wrapper shows that offers its inner one nothing: what that shows, but that it allows only scans of whole rows for which no restriction
 -- is answered Exact; a shy one allows Ignored alone, a vague one Hint too. Each scan is seen as it was asked for.
-use Rattle.std.specs.Prelude.{◌≡◌, ◌≢◌, ℕ, Bool, true, false, not, ◌&&◌, ◌||◌, List, [], ◌∷◌, length, map, replicate, Option, Some, None, option_map}
+use Rattle.std.specs.Prelude.{◌≡◌, ℕ, Bool, true, false, not, ◌&&◌, ◌||◌, List, [], ◌∷◌, length, map, replicate, Option, Some, None, option_map}
 use Rattle.std.specs.Ordering.{nat_cmp}
 use Rattle.std.specs.BTreeMap as tree
 use Rattle.std.specs.BTreeMap.{BTreeMap}
@@ -86,11 +86,6 @@ hidden hints s asked = record { nature = round s.nature; ledger = hidden_ledger 
 
 abbrev pub shied : BoxState → (ℕ → Option AskedForm) → BoxState
 shied = hidden false
-
--- what is asked for under one number becomes this, and all else is as before
-pub record AsksNow (old : ℕ → Option AskedForm) (number : ℕ) (ask : AskedForm) (new : ℕ → Option AskedForm) : Type 0 where
-  pub now : new number ≡ Some ask
-  pub others : (q : ℕ) → q ≢ number → new q ≡ old q
 
 -- the scan of this number gives whole rows, offers no restriction and has no parameter
 pub record OffersNothing (s : BoxState) (number : ℕ) : Type 0 where

@@ -3,7 +3,7 @@ ghost use Rattle.std.specs.Prelude.{◌≡◌, ◌<◌, ◌^◌, true, map, leng
 ghost use Rattle.std.specs.Ordering.{nat_cmp};
 ghost use Rattle.std.specs.BTreeMap as tree;
 ghost use Rattle.fdw_api.specs.State.{IsIdle};
-ghost use Rattle.fdw_api.specs.Calls.{row_of, IsOpen, Iterates, Breaks, bumped};
+ghost use Rattle.fdw_api.specs.Calls.{row_of, IsOpen, Iterates, Breaks};
 ghost use Rattle.probe_wrapper.specs.Shuffled.{turned, turns_of, reordered, box_of, is_unread};
 ghost use Rattle.probe_wrapper.specs.Shuffled.{IsRead, TakesFirst, TurnsRows, ReadsOut, StopsOut};
 

@@ -44,21 +44,21 @@ filter_and p q (x ∷ xs) = step (q x) (filter_and p q xs)
     step true e = ap (λ (l : List _). cond (p x) (x ∷ l) l) e
     step false e = e
 
-and_first : (a b : Bool) → (a && b) ≡ true → a ≡ true
+pub and_first : (a b : Bool) → (a && b) ≡ true → a ≡ true
 and_first true b e = refl
 and_first false b e = absurd (no b e)
   where
     no : (b : Bool) → (false && b) ≡ true → ⊥
     no b e = cc
 
-and_second : (a b : Bool) → (a && b) ≡ true → b ≡ true
+pub and_second : (a b : Bool) → (a && b) ≡ true → b ≡ true
 and_second true b e = e
 and_second false b e = absurd (no b e)
   where
     no : (b : Bool) → (false && b) ≡ true → ⊥
     no b e = cc
 
-and_both : (a b : Bool) → a ≡ true → b ≡ true → (a && b) ≡ true
+pub and_both : (a b : Bool) → a ≡ true → b ≡ true → (a && b) ≡ true
 and_both true true e f = refl
 and_both true false e f = absurd cc
 and_both false b e f = absurd cc
@@ -72,7 +72,7 @@ one_met f (g ∷ gs) params r h e = at (λ c. one_met f gs params r c (and_secon
     at further zero lt i = ap (meets params r) (sym i) ∙ and_first (meets params r g) (meets_all gs params r) e
     at further (suc k) lt i = further (k, omega (arith, lt), i)
 
-exact_met : (offered : List RestrictionForm) (answers : List Agree) (params r : Tuple) → meets_all offered params r ≡ true → meets_exact offered answers params r ≡ true
+pub exact_met : (offered : List RestrictionForm) (answers : List Agree) (params r : Tuple) → meets_all offered params r ≡ true → meets_exact offered answers params r ≡ true
 exact_met [] answers params r e = refl
 exact_met (f ∷ fs) [] params r e = refl
 exact_met (f ∷ fs) (Exact ∷ answers) params r e = and_both (meets params r f) (meets_exact fs answers params r) (and_first (meets params r f) (meets_all fs params r) e) (exact_met fs answers params r (and_second (meets params r f) (meets_all fs params r) e))

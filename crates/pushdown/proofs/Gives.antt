@@ -6,9 +6,10 @@ use Rattle.std.proofs.lemmas.Grind.{flat_map-append}
 use Rattle.std.proofs.lemmas.List.Elements.{filter-append}
 use Rattle.std.proofs.lemmas.List.Sorted.{IsPermutation-trans, IsPermutation-append, IsPermutation-append_left, IsPermutation-map, length_permutation}
 use Rattle.med_value.specs.Datum.{Tuple, NoValue}
-use Rattle.pushdown.specs.Joins.{Each, beside, with_nulls, or_nulls, kept, AllWide}
+use Rattle.pushdown.specs.Joins.{Each, with_nulls, or_nulls, kept, AllWide}
 use Rattle.pushdown.specs.Loops.{Step, Decides, IsWhole, IsSplit, AreSplit, when, Then, Deeper, Loop, Runs, levels, entries}
 use Rattle.pushdown.proofs.Shuffles.{same, flat_map_shuffled, filter_shuffled, each_parts, each_shuffled}
+use Rattle.med_query.specs.Query.{beside}
 
 abbrev leftover : Bool → ℕ → Tuple → List Tuple → List Tuple
 leftover outer w x [] = cond outer (with_nulls w x ∷ []) []

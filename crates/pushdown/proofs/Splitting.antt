@@ -11,6 +11,7 @@ use Rattle.fdw_api.specs.declared.scan.Agree.TheVariants.{Ignored, Hint, Exact}
 use Rattle.pushdown.specs.Tests.{TestOf, with_literal, with_earlier, asks_null, passes, offered_test}
 use Rattle.pushdown.specs.Offers.{form_by, place_by, next_by, tests_of, forms_from, places_of, again, again_by, is_true, all_true}
 use Rattle.pushdown.proofs.Deciding.{Bares, tests_decide}
+use Rattle.pushdown.proofs.Found.{and_first, and_second, and_both}
 
 -- the parameters from a number on are the cells at these places
 abbrev Reads : Tuple → ℕ → List ℕ → Tuple → Type 0
@@ -32,25 +33,6 @@ reads_on k (with_earlier c op place) params x places h j = ap (cell params) at �
     at : suc k + j ≡ k + suc j
     at = omega arith
 reads_on k (asks_null c negative) params x places h j = h j
-
-and_first : (a b : Bool) → (a && b) ≡ true → a ≡ true
-and_first true b e = refl
-and_first false b e = absurd (no b e)
-  where
-    no : (b : Bool) → (false && b) ≡ true → ⊥
-    no b e = cc
-
-and_second : (a b : Bool) → (a && b) ≡ true → b ≡ true
-and_second true b e = e
-and_second false b e = absurd (no b e)
-  where
-    no : (b : Bool) → (false && b) ≡ true → ⊥
-    no b e = cc
-
-and_both : (a b : Bool) → a ≡ true → b ≡ true → (a && b) ≡ true
-and_both true true e f = refl
-and_both true false e f = absurd cc
-and_both false b e f = absurd cc
 
 exact_none : (fs : List RestrictionForm) (params r : Tuple) → meets_exact fs [] params r ≡ true
 exact_none [] params r = refl

@@ -1,18 +1,23 @@
 -- The groups of rows while they come, one after another.
-use Rattle.std.proofs.Common.{◌≡◌, ◌<◌, ◌≤◌, ◌+◌, ℕ, zero, suc, Bool, true, false, ◌||◌, if◌then◌else◌, List, [], ◌∷◌, ◌++◌, map, length, get_or, refl, sym, ap, ◌∙◌, arith}
+use Rattle.std.proofs.Common.{◌≡◌, ◌<◌, ◌≤◌, ◌+◌, ℕ, zero, suc, Bool, true, false, ◌||◌, if◌then◌else◌, List, [], ◌∷◌, ◌++◌, map, length, get_or, refl, sym, ap, ◌∙◌, arith, IsPermutation}
 use Rattle.std.proofs.lemmas.List.{length-append, length-set}
 use Rattle.std.specs.List.{list_any}
 use Rattle.std.proofs.lemmas.List.Sorted.{IsPermutation-refl}
 use Rattle.indexmap.specs.IndexSet.{insert_key}
 use Rattle.med_value.specs.Datum.{Tuple}
 use Rattle.med_query.specs.Lists.{tuple_eq}
-use Rattle.med_query.specs.Query.{key_of}
+use Rattle.med_query.specs.Query.{key_of, classes_by}
 use Rattle.med_query.proofs.AnyOrder.{tuple_eq_only, tuple_eq_self}
 use Rattle.query_answer.specs.Classes.{classes_so_far, keys_so_far}
-use Rattle.query_answer.specs.Grouping.{AreGroups}
 use Rattle.query_answer.specs.Keys.{number_in, keys_after, numbers_after, put_at, gathered}
 use Rattle.query_answer.proofs.Groups.{put_in, put_end}
 use Rattle.query_answer.proofs.KeyNumbers.{all_gathered}
+
+-- the groups of the same rows in some order
+pub record AreGroups (keys : List ℕ) (rows : List Tuple) (groups : List (List Tuple)) : Type 0 where
+  pub ordered : List Tuple
+  pub same : IsPermutation rows ordered
+  pub are : groups ≡ classes_by keys ordered
 
 pub folded_are_groups : (columns : List ℕ) (rows : List Tuple) → AreGroups columns rows (classes_so_far columns rows)
 folded_are_groups [] rows = record { ordered = rows; same = IsPermutation-refl rows; are = refl }

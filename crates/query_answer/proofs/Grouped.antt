@@ -1,5 +1,5 @@
 -- A core that groups: its outputs over its groups in any order.
-use Rattle.std.proofs.Common.{◌≡◌, ◌≤◌, ◌^◌, ℕ, List, [], ◌∷◌, ◌++◌, map, filter, flat_map, length, refl, sym, ap, ◌∙◌, Contains, subst, IsPermutation, arith, append-nil}
+use Rattle.std.proofs.Common.{◌≡◌, ◌≤◌, ◌^◌, ℕ, List, [], ◌∷◌, ◌++◌, map, filter, flat_map, length, refl, sym, ap, ◌∙◌, Contains, subst, IsPermutation, arith, append-nil, Option, Some}
 use Rattle.std.proofs.lemmas.List.Sorted.{IsPermutation-sym}
 use Rattle.std.proofs.lemmas.List.Elements.{Contains-append_left, Contains-append_right}
 use Rattle.med_value.specs.Datum.{Tuple}
@@ -10,14 +10,17 @@ use Rattle.tri_expr.specs.Outcome.{over}
 use Rattle.tri_expr.specs.Meaning.{OnClass}
 use Rattle.tri_expr.specs.Verdict.{is_in, faults_told}
 use Rattle.med_query.specs.Laws.{IsSteady, IsSteadyCore, AllIgnoreOrder, AnswersIgnoreOrder}
-use Rattle.med_query.specs.Query.{Core, Query, Chain, Table, Tables, SameRows, Output, senses, keeps, joined_chains, classes_by, core_faults, core_outputs, outputs_all, alone, IsTold, output_faults}
-use Rattle.query_answer.specs.Grouping.{AreGroups}
-use Rattle.query_answer.specs.Staging.{staged_core, Stages, row_kept, where_told, arguments_told, class_output, class_staged, class_told, groups_by}
+use Rattle.med_query.specs.Query.{Core, Query, Chain, Table, Tables, SameRows, Output, senses, keeps, joined_chains, classes_by, core_faults, core_outputs, outputs_all, alone, IsTold, output_faults, Grouping as Groups}
+use Rattle.query_answer.specs.Staging.{row_kept, where_told, arguments_told, class_output, class_staged, class_told}
 use Rattle.query_answer.specs.Answering.{IsSmall}
 use Rattle.med_query.proofs.Telling.{tells_more}
 use Rattle.query_answer.proofs.ToldParts.{both_told, quiet_parts, told_parts}
 use Rattle.query_answer.proofs.Joining.{all_kept}
-use Rattle.query_answer.proofs.Ungrouped.{none_told, kept_mapped, kept_filtered}
+use Rattle.query_answer.proofs.Ungrouped.{none_told, kept_mapped, kept_filtered, Stages, staged_core}
+use Rattle.query_answer.proofs.Folded.{AreGroups}
+
+abbrev pub groups_by : List ℕ → List OnClass → List OnClass → Option Groups
+groups_by columns arguments having = Some (record { keys = columns; arguments = arguments; having = having })
 
 -- the laws of answers in any order
 abbrev pub AnyOrder : Type 0

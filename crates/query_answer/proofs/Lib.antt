@@ -1,5 +1,4 @@
 pub mod KeyNumbers
-pub mod Slices
 pub mod Groups
 pub mod Pages
 pub mod KeyOrder
@@ -20,4 +19,5 @@ pub mod Evaluated
 pub mod Runnings
 pub mod Gathered
 pub mod Unions
+pub mod Alone
 pub mod Counting

@@ -1,21 +1,20 @@
 -- Rows that are passed over while outputs wait for ORDER BY, OFFSET and LIMIT.
-use Rattle.std.proofs.Common.{◌≡◌, ◌<◌, ◌-◌, ℕ, Bool, true, false, not, if◌then◌else◌, List, [], ◌∷◌, ◌++◌, map, length, get_or, refl, sym, ap, ◌∙◌, arith, subst, is_lt, append-nil, Some, ◌+◌}
+use Rattle.std.proofs.Common.{◌≡◌, ◌<◌, ◌-◌, ℕ, Bool, true, false, not, List, [], ◌∷◌, ◌++◌, map, length, get_or, refl, sym, ap, ◌∙◌, arith, subst, is_lt, Some, ◌+◌}
 use Rattle.std.specs.List.{list_all}
 use Rattle.std.specs.List.Sorted.{IsSortedBy}
 use Rattle.std.specs.Cmp.{IsStrictWeakOrder, IsTotalOrder}
 use Rattle.std.proofs.lemmas.Bool.{and_parts}
-use Rattle.std.proofs.lemmas.List.{get_or-map, length-append, length-map, take-append-le, take_all}
-use Rattle.std.proofs.lemmas.List.Sorted.{IsPermutation-refl, ranks_by}
+use Rattle.std.proofs.lemmas.List.{get_or-map, length-map, take_all}
+use Rattle.std.proofs.lemmas.List.Sorted.{ranks_by}
 use Rattle.med_value.specs.Datum.{Tuple, datum}
 use Rattle.med_value.specs.declared.value.Value.{Value}
 use Rattle.med_value.specs.Order.{key_cmp}
-use Rattle.tri_expr.specs.declared.expr.Fault.{Fault}
 use Rattle.tri_expr.specs.declared.expr.Expr.{Expr}
 use Rattle.tri_expr.specs.Laws.{HasValue}
 use Rattle.tri_expr.specs.Meaning.{meaning}
 use Rattle.tri_expr.specs.TreeParts.{is_risky}
 use Rattle.tri_expr.specs.Outcome.{Outcome, Is, Fails, over, value_of}
-use Rattle.tri_expr.specs.Verdict.{fault_list, faults_told, is_in}
+use Rattle.tri_expr.specs.Verdict.{fault_list, is_in}
 use Rattle.med_query.specs.Form.{direction_of}
 use Rattle.med_query.specs.Query.{Output, keys_cmp, on_row, senses}
 use Rattle.med_query.specs.declared.select.Select.{Select}
@@ -23,9 +22,9 @@ use Rattle.med_query.specs.declared.select.SelectCore.{SelectCore}
 use Rattle.med_query.specs.declared.select.SortDirection.{SortDirection}
 use Rattle.query_answer.specs.declared.staged.Staged.{Staged}
 use Rattle.query_answer.specs.Ordering.{BeginsInOrder, StandsIn, comes_before, output_cmp}
-use Rattle.query_answer.specs.Staging.{HasNoFault, class_output, faults_by, output_of, outputs_by, sorted_by}
+use Rattle.query_answer.specs.Staging.{class_output, output_of, outputs_by, sorted_by}
 use Rattle.query_answer.proofs.KeyOrder.{keys_total}
-use Rattle.query_answer.proofs.Standing.{stands_more, stands_same, stands_then, stands_without}
+use Rattle.query_answer.proofs.Standing.{stands_more, stands_then, stands_without}
 
 -- an expression that has a value shows no fault
 pub no_fault_first : (o : Outcome) (os : List Outcome) → HasValue o → fault_list os ≡ [] → fault_list (o ∷ os) ≡ []
@@ -75,32 +74,6 @@ passed_row law select s held front r x directions keys last some b kept at one t
     (subst (λ (ds : List SortDirection). is_lt (keys_cmp (map direction_of ds) (map value_of (on_row (senses [] keys) r)) (map datum last)) ≡ false) one behind)) in
     passed_behind law select s (map output_of held) front r (output_of x) some b kept
     (subst (λ (o : Output). is_lt (keys_cmp (map direction_of select.directions.items) (map value_of (on_row (senses [] s.keys.items) r)) o.0) ≡ false) (sym e) h)
-
--- a row that WHERE drops
-pub passed_dropped : (select : Select) (s : SelectCore) (outs : List Output) (r : Tuple) → is_in (over (senses [] s.conditions.items) (r ∷ [])) ≡ false → StandsIn select (outs ++ outputs_by s r) outs
-passed_dropped select s outs r out =
-    let none : outputs_by s r ≡ [] = rw out refl in
-    let same : outs ++ outputs_by s r ≡ outs = ap (λ l. outs ++ l) none ∙ append-nil outs in
-    subst (λ l. StandsIn select l outs) (sym same) (stands_same (output_cmp select.directions.items) select.offset select.limit outs outs (IsPermutation-refl outs))
-
-quiet_if : (b : Bool) {f g : List Fault} → f ≡ [] → g ≡ [] → f ++ (if b then g else []) ≡ []
-quiet_if true e h = rw (e, h) refl
-quiet_if false e h = rw e refl
-
--- where no order key and no item has a fault, a row shows none but those of WHERE
-pub passed_quiet : (s : SelectCore) (r : Tuple) → HasNoFault s → faults_told (over (senses [] s.conditions.items) (r ∷ [])) ≡ [] → faults_by s r ≡ []
-passed_quiet s r h e = quiet_if (is_in (over (senses [] s.conditions.items) (r ∷ []))) e (h (r ∷ []))
-
--- outputs in order at the front stay there
-pub begins_more : (select : Select) (front : ℕ) (outs new more : List Output) → new ≡ outs ++ more → BeginsInOrder select front outs → BeginsInOrder select front new
-begins_more select front outs new more e b =
-    let l = length-append outs more in
-    subst (λ (xs : List Output). BeginsInOrder select front xs) (sym e) (record {
-      limit = b.limit;
-      offset = b.offset;
-      many = omega (arith, l, b.many);
-      sorted = rw (take-append-le front outs more b.many) b.sorted;
-    })
 
 -- as many as are wanted, in order
 pub begins_all : (select : Select) (wanted : ℕ) (outs : List Output) → (most : ℕ) × (select.limit ≡ Some most) × (wanted ≡ select.offset + most) → length outs ≡ wanted → IsSortedBy (comes_before select) outs

@@ -1,5 +1,5 @@
 -- What is kept of leaves, with one more row.
-use Rattle.std.proofs.Common.{◌≡◌, ℕ, zero, suc, ◌+◌, ◌*◌, ◌^◌, ◌<◌, ◌≤◌, ℤ, pos, negsuc, ◌+ℤ◌, true, false, cond, List, [], ◌∷◌, ◌++◌, All, length, filter, take, drop, get_or, set, refl, sym, ap, ◌∙◌, arith, subst}
+use Rattle.std.proofs.Common.{◌≡◌, ℕ, zero, suc, ◌+◌, ◌*◌, ◌^◌, ◌<◌, ◌≤◌, ℤ, pos, negsuc, ◌+ℤ◌, true, false, cond, List, [], ◌∷◌, ◌++◌, All, length, take, drop, get_or, set, refl, sym, ap, ◌∙◌, arith, subst}
 use Rattle.std.proofs.Math.IntN.{+ℤ_comm, +ℤ_idr}
 use Rattle.std.proofs.lemmas.List.{take_more, take_more_set, get_or-drop, drop-set-lt, drop_more}
 use Rattle.std.proofs.lemmas.List.Elements.{All-get_or}
@@ -10,12 +10,11 @@ use Rattle.tri_expr.specs.declared.expr.Expr.{Expr}
 use Rattle.tri_expr.specs.declared.expr.SetFunction.{SetFunction}
 use Rattle.tri_expr.specs.declared.expr.SetFunction.TheVariants.{Count, Sum, Min, Max}
 use Rattle.tri_expr.specs.Aggregate.{is_present, whole_of, total, lesser, greater}
-use Rattle.tri_expr.specs.Lists.{gather}
 use Rattle.tri_expr.specs.Meaning.{argument, meaning, OnClass}
 use Rattle.tri_expr.specs.Outcome.{value_of}
-use Rattle.tri_expr.specs.Tally.{best_of, better_of, magnitude}
-use Rattle.tri_expr.proofs.Shuffled.{Shuffled, skip, turn, both, same, filtered, as_long}
-use Rattle.tri_expr.proofs.Tallies.{total_shuffled, least_shuffled, greatest_shuffled}
+use Rattle.tri_expr.specs.Tally.{better_of, magnitude}
+use Rattle.tri_expr.proofs.Shuffled.{same, filtered, as_long}
+use Rattle.tri_expr.proofs.Tallies.{total_shuffled, to_front, best_more, count_one}
 use Rattle.query_answer.specs.Leaves.{argument_values, leaf_beyond, leaf_value, leaf_values}
 use Rattle.query_answer.specs.Running.{AllRun, Runs, TalliesIn, TalliesSoFar}
 use Rattle.query_answer.specs.declared.leaves.Leaf.{Leaf}
@@ -23,11 +22,6 @@ use Rattle.query_answer.specs.declared.leaves.Leaf.TheVariants.{Aggregate, Total
 use Rattle.query_answer.specs.declared.running.Tally.{Tally}
 use Rattle.query_answer.specs.declared.running.Running.{Running}
 use Rattle.query_answer.specs.declared.running.Running.TheVariants.{Shared, Counted, Tallied}
-
--- one more value
-to_front : (vs : List Datum) (v : Datum) → Shuffled (vs ++ v ∷ []) (v ∷ vs)
-to_front [] v = same (v ∷ [])
-to_front (w ∷ vs) v = both (skip w (to_front vs v)) (turn w v vs)
 
 lesser_none : (v : Datum) → lesser v NoValue ≡ v
 lesser_none NoValue = refl
@@ -41,29 +35,11 @@ greater_none (Whole n) = refl
 greater_none (Chars t) = refl
 greater_none (Logic b) = refl
 
-lesser_either : (v w : Datum) → lesser v w ≡ lesser w v
-lesser_either v w = ap (lesser v) (sym (lesser_none w)) ∙ least_shuffled (turn v w []) ∙ ap (lesser w) (lesser_none v)
-
-greater_either : (v w : Datum) → greater v w ≡ greater w v
-greater_either v w = ap (greater v) (sym (greater_none w)) ∙ greatest_shuffled (turn v w []) ∙ ap (greater w) (greater_none v)
-
-best_more : (k : SetFunction) (vs : List Datum) (v : Datum) → better_of k (best_of k vs) v ≡ best_of k (vs ++ v ∷ [])
-best_more Count vs v = refl
-best_more Sum vs v = refl
-best_more Min vs v = lesser_either (gather lesser NoValue vs) v ∙ sym (least_shuffled (to_front vs v))
-best_more Max vs v = greater_either (gather greater NoValue vs) v ∙ sym (greatest_shuffled (to_front vs v))
-
 best_without : (k : SetFunction) (best : Datum) → better_of k best NoValue ≡ best
 best_without Count best = refl
 best_without Sum best = refl
 best_without Min best = lesser_none best
 best_without Max best = greater_none best
-
-count_one : (v : Datum) (n : ℕ) (vs : List Datum) → n ≡ length (filter is_present vs) → n + cond (is_missing v) 0 1 ≡ length (filter is_present (v ∷ vs))
-count_one NoValue n vs e = omega (arith, e)
-count_one (Whole m) n vs e = omega (arith, e)
-count_one (Chars t) n vs e = omega (arith, e)
-count_one (Logic b) n vs e = omega (arith, e)
 
 added : (k : SetFunction) (vs : List Datum) (v : Datum) (old new : Tally) → new.count ≡ old.count + cond (is_missing v) 0 1 → new.total ≡ old.total +ℤ whole_of v → datum new.best ≡ better_of k (datum old.best) v → magnitude new.total ≤ new.count * 2 ^ 63
     → TalliesSoFar k vs old → TalliesSoFar k (vs ++ v ∷ []) new

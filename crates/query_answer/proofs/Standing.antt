@@ -140,10 +140,6 @@ module _ {X : Type 0} (lt : X → X → Bool) (o : IsStrictWeakOrder lt) where
       rw (r, none (omega (arith, h, n, l, k))) refl in
       (up', few', rest ++ gone, joined, short, All-append (λ z. All (λ r. lt z r ≡ false) least) rest gone behind' (gone_behind wanted first more least rest gone few' (none, few) same' behind' behind))
 
-  -- the first of a sorted list
-  head_least : (x : X) (xs : List X) → IsSortedBy lt (x ∷ xs) → All (λ z. lt z x ≡ false) xs
-  head_least x xs up k d low = sorted_far lt o (x ∷ xs) up 0 (suc k) d (omega arith) (omega (arith, low))
-
   front_sorted : (xs ys : List X) → IsSortedBy lt (xs ++ ys) → IsSortedBy lt xs
   front_sorted xs ys up k d low high =
       let l = length-append xs ys in

@@ -1,5 +1,5 @@
 -- A core that does not group: its classes are its rows, one by one.
-use Rattle.std.proofs.Common.{IsPermutation, subst, ◌≡◌, Bool, true, false, cond, List, [], ◌∷◌, ◌++◌, map, filter, flat_map, refl, sym, ap, ◌∙◌, None, Result, Ok, Err}
+use Rattle.std.proofs.Common.{IsPermutation, subst, ◌≡◌, Bool, true, false, cond, List, [], ◌∷◌, ◌++◌, map, filter, flat_map, refl, sym, ap, ◌∙◌, None, Result, Ok, Err, Option}
 use Rattle.std.proofs.lemmas.List.Sorted.{IsPermutation-refl}
 use Rattle.med_value.specs.Datum.{Tuple}
 use Rattle.tri_expr.specs.declared.expr.Fault.{Fault}
@@ -7,10 +7,26 @@ use Rattle.tri_expr.specs.declared.expr.EvalFault.{EvalFault}
 use Rattle.tri_expr.specs.Outcome.{over}
 use Rattle.tri_expr.specs.Meaning.{OnClass}
 use Rattle.tri_expr.specs.Verdict.{faults_told, fault_list}
-use Rattle.med_query.specs.Query.{Core, Chain, Tables, Output, on_row, keeps, joined_chains, classes, kept_classes, class_faults, core_faults, output, outputs_all, has_class, TellsFault, output_faults}
-use Rattle.query_answer.specs.Staging.{staged_core, Stages, where_told, row_staged, row_told_all}
+use Rattle.med_query.specs.Query.{Core, Chain, Tables, Output, on_row, keeps, joined_chains, classes, kept_classes, class_faults, core_faults, output, outputs_all, has_class, TellsFault, output_faults, Grouping as Groups}
+use Rattle.query_answer.specs.Staging.{where_told, row_staged, row_told_all}
 use Rattle.med_query.proofs.Telling.{tells_more}
 use Rattle.query_answer.proofs.ToldParts.{both_told, quiet_parts, told_parts}
+
+-- a core of which nothing but its outputs is asked
+abbrev pub staged_core : List Chain → List OnClass → Option Groups → List OnClass → List OnClass → Core
+staged_core from conditions group keys items = record {
+  from = from;
+  where_ = conditions;
+  group = group;
+  items = items;
+  distinct = false;
+  keys = keys;
+}
+
+-- what the classes of a core show, in some order, where no fault may be told
+pub record Stages (c : Core) (db : Tables) (outs : List Output) : Type 0 where
+  pub no_fault : core_faults c db ≡ []
+  pub same : IsPermutation (outputs_all c db) outs
 
 -- each part of a core that does not group
 abbrev pub ungrouped : List Chain → List OnClass → List OnClass → Bool → List OnClass → Core

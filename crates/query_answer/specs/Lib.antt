@@ -1,7 +1,6 @@
 pub mod Staging
 pub mod Ordering
 pub mod Giving
-pub mod Grouping
 pub mod Keys
 pub mod Finishing
 pub mod Answering

@@ -1,15 +1,13 @@
 -- What a class is sorted by and what it shows, where conditions keep it.
-use Rattle.std.specs.Prelude.{◌≡◌, IsPermutation, ℕ, false, if◌then◌else◌, List, [], ◌∷◌, ◌++◌, map, take, drop, Option, Some, None, Vec}
-use Rattle.med_value.specs.Datum.{Tuple, datum, tuple}
-use Rattle.med_value.specs.declared.value.Row.{Row}
+use Rattle.std.specs.Prelude.{◌≡◌, if◌then◌else◌, List, [], ◌∷◌, ◌++◌, map, take, drop, Option, Some, None}
+use Rattle.med_value.specs.Datum.{Tuple, datum}
 use Rattle.query_answer.specs.declared.staged.Staged.{Staged}
 use Rattle.tri_expr.specs.declared.expr.Fault.{Fault}
 use Rattle.tri_expr.specs.Outcome.{over, value_of}
 use Rattle.tri_expr.specs.Meaning.{OnClass}
 use Rattle.tri_expr.specs.Verdict.{is_in, faults_told, fault_list}
-use Rattle.tri_expr.specs.declared.expr.Expr.{Expr}
 use Rattle.med_query.specs.declared.select.SelectCore.{SelectCore}
-use Rattle.med_query.specs.Query.{Output, Core, Chain, Tables, Grouping as Groups, core_faults, outputs_all, keeps, on_row, senses, output_faults}
+use Rattle.med_query.specs.Query.{Output, keeps, on_row, senses, output_faults}
 
 -- what an output shows, and what it is sorted by
 abbrev pub shown_by : Staged → Tuple
@@ -25,10 +23,6 @@ output_of s = (sorted_by s, shown_by s)
 abbrev pub outputs_in : Option Staged → List Output
 outputs_in None = []
 outputs_in (Some s) = output_of s ∷ []
-
--- a list of rows as tuples
-abbrev pub tuples_in : {A : Type 0} → Vec Row A → List Tuple
-tuples_in rows = map tuple rows.items
 
 abbrev pub class_output : List OnClass → List OnClass → List Tuple → Output
 class_output keys items class = (map value_of (over keys class), map value_of (over items class))
@@ -59,30 +53,6 @@ faults_by s r = row_told_all (senses [] s.conditions.items) (senses [] s.keys.it
 -- no order key and no item of a core has a fault, over whatever class
 abbrev pub HasNoFault : SelectCore → Type 0
 HasNoFault s = (class : List Tuple) → output_faults (senses [] s.keys.items) (senses [] s.items.items) class ≡ []
-
-abbrev pub groups_by : List ℕ → List OnClass → List OnClass → Option Groups
-groups_by columns arguments having = Some (record { keys = columns; arguments = arguments; having = having })
-
--- a core of which nothing but its outputs is asked
-abbrev pub staged_core : List Chain → List OnClass → Option Groups → List OnClass → List OnClass → Core
-staged_core from conditions group keys items = record {
-  from = from;
-  where_ = conditions;
-  group = group;
-  items = items;
-  distinct = false;
-  keys = keys;
-}
-
--- the same of a core that groups, as its expressions are written
-abbrev pub grouped_core : List Chain → List Expr → (columns : List ℕ) (arguments having keys items : List Expr) → Core
-grouped_core from conditions columns arguments having keys items =
-    staged_core from (senses [] conditions) (groups_by columns (senses [] arguments) (senses [] having)) (senses [] keys) (senses [] items)
-
--- what the classes of a core show, in some order, where no fault may be told
-pub record Stages (c : Core) (db : Tables) (outs : List Output) : Type 0 where
-  pub no_fault : core_faults c db ≡ []
-  pub same : IsPermutation (outputs_all c db) outs
 
 -- a row that WHERE keeps, and the faults of WHERE on it
 abbrev pub row_kept : List OnClass → Tuple → List Tuple

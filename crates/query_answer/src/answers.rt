@@ -1,19 +1,20 @@
 //! The answer of a query over its gathered rows.
-ghost use Rattle.std.specs.Prelude.{◌≡◌, ◌++◌, IfOk, List, map};
+ghost use Rattle.std.specs.Prelude.{◌≡◌, ◌++◌, ◌∷◌, [], IfOk, List, None, drop, map};
 ghost use Rattle.med_value.specs.Datum.{tuple};
-ghost use Rattle.med_query.specs.Query.{IsAnswer, Tables};
+ghost use Rattle.med_query.specs.Query.{IsAnswer, Output, Tables, TellsFault, faults, joined_chains, limited};
 ghost use Rattle.med_query.specs.Form.{direction_of};
-ghost use Rattle.med_query.specs.Select.{core_of, query_of};
+ghost use Rattle.med_query.specs.Select.{chains_of, core_of, query_of};
 ghost use Rattle.query_answer.specs.Gathering.{AreGathered};
-ghost use Rattle.query_answer.specs.Staging.{output_of};
+ghost use Rattle.query_answer.specs.Staging.{output_of, outputs_in};
 ghost use Rattle.query_answer.specs.Giving.{AllGive};
 ghost use Rattle.query_answer.specs.Finishing.{Finishes};
 ghost use Rattle.query_answer.specs.Answering.{AreSmall, AllShow, Shows};
 
 use crate::gathering::Gathering;
-use crate::ordering::{in_order, shown_page};
+use crate::ordering::{in_order, page_length, shown_page};
 use crate::outputs::AnswerFault;
-use crate::staging::Staged;
+use crate::staging::{Staged, staged_row};
+use med_query::law::distinct_ignores_order;
 use med_query::{Select, SelectCore, SortDirection};
 use med_value::{NoMemory, Row};
 use std::alloc::Global;
@@ -112,5 +113,59 @@ pub fn answer(
     ) {
         Ok(out) => Ok(out),
         Err(_) => Err(AnswerFault::Evaluation(EvalFault::NoMemory)),
+    }
+}
+
+// What an output shows, where there is one and OFFSET and LIMIT leave it.
+fn shown_one(
+    alloc: Global,
+    staged: Option<Staged>,
+    offset: usize,
+    limit: Option<usize>,
+) -> Result<Vec<Row>, NoMemory>
+    ensures { IfOk result (λ out. map tuple out.items ≡ limited limit (drop offset (map (λ (o : Output). o.1) (outputs_in staged)))) }
+{
+    let mut rows = Vec::new(alloc);
+    match staged {
+        None => {}
+        Some(one) => {
+            if page_length(1, offset, limit) > 0 {
+                rows.push(one.into_row())?;
+            }
+        }
+    }
+    Ok(rows)
+}
+
+/// The answer of a SELECT of one core that does not group, over its only joined row (SQL standard, <query expression>): what that row
+/// shows, where WHERE keeps it, and OFFSET and LIMIT leave it. One row stands in every order, and is equal to no other.
+///
+/// It is what [`answer`] tells of that row, and keeps no list but that of the answer.
+///
+/// # Errors
+///
+/// A fault that may be told, whatever LIMIT says: of WHERE on the row, or where that keeps it of an order key or an item.
+/// [`EvalFault::NoMemory`] where memory was asked for and refused.
+pub fn answer_row(
+    alloc: Global,
+    select: &Select,
+    core: &SelectCore,
+    row: &Row,
+) -> Result<Vec<Row>, EvalFault>
+    requires one { select.now.cores.items ≡ core.now ∷ [] }
+    requires ungrouped { core.now.grouping ≡ None }
+    ensures answer { IfOk result (λ out. (db : Tables) → joined_chains db (chains_of core.now.from.items) ≡ tuple row.now ∷ []
+        → IsAnswer (query_of select.now) db (map tuple out.items)) }
+    ensures told { (db : Tables) → joined_chains db (chains_of core.now.from.items) ≡ tuple row.now ∷ []
+        → TellsFault result (faults (query_of select.now) db) }
+{
+    distinct_ignores_order();
+    let staged = match staged_row(alloc, core, row) {
+        Ok(staged) => staged,
+        Err(fault) => return Err(fault),
+    };
+    match shown_one(alloc, staged, select.offset, select.limit) {
+        Ok(out) => Ok(out),
+        Err(_) => Err(EvalFault::NoMemory),
     }
 }

@@ -20,6 +20,6 @@ mod staging;
 mod values;
 mod waiting;
 
-pub use answers::answer;
+pub use answers::{answer, answer_row};
 pub use gathering::Gathering;
 pub use outputs::AnswerFault;

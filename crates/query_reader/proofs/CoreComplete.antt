@@ -1,19 +1,19 @@
 -- The cores that are spelled so are read so.
 use Rattle.std.proofs.Common.{◌≡◌, ℕ, zero, suc, ◌+◌, ◌≤◌, Bool, true, false, cond, List, [], ◌∷◌, ◌++◌, length, refl, sym, ◌∙◌, ap, subst, arith, append_assoc, length-append, codes}
 use Rattle.std.specs.Prelude.{nat_le, max, Result, Ok, Err, Option, Some, None}
-use Rattle.expr_grammar.specs.declared.refusal.Refusal.{Refusal}
-use Rattle.expr_grammar.specs.declared.refusal.Refusal.TheVariants.{Syntax, TooHigh}
-use Rattle.expr_grammar.specs.declared.symbols.Separator.TheVariants.{Comma}
+use Rattle.med_syntax.specs.declared.refusal.Refusal.{Refusal}
+use Rattle.med_syntax.specs.declared.refusal.Refusal.TheVariants.{Syntax, TooHigh}
+use Rattle.med_syntax.specs.declared.symbols.Separator.TheVariants.{Comma}
 use Rattle.med_syntax.specs.Terminal.{Terminal}
 use Rattle.med_syntax.specs.Terminal as t
 use Rattle.med_syntax.specs.ExprTree.{ExprTree, height, Fits, spelling}
-use Rattle.expr_grammar.specs.ExprReading.{below, chain_of, is_of, compare_of, range_of, left_of}
-use Rattle.expr_grammar.specs.ExprSteps.{behind_of}
+use Rattle.med_syntax.specs.ExprReading.{below, chain_of, is_of, compare_of, range_of, left_of}
+use Rattle.med_syntax.specs.ExprSteps.{behind_of}
 use Rattle.med_syntax.specs.QueryTree.{ItemTree, all, all_of, value, CoreTree, item_height, chain_height, highest_of, condition_height, core_height}
-use Rattle.query_grammar.specs.QueryGrammar.{keywords, SpellsList, SpellsItem, SpellsChain, SpellsGroup, SpellsFlag, SpellsPerhaps, SpellsListed, SpellsExpr, SpellsCore, SpellsUnions}
+use Rattle.med_syntax.specs.QueryGrammar.{keywords, SpellsList, SpellsItem, SpellsChain, SpellsGroup, SpellsFlag, SpellsPerhaps, SpellsListed, SpellsExpr, SpellsCore, SpellsUnions}
 use Rattle.query_reader.specs.QueryReading.{Parser, seq, behind_word, behind_words, flag_of, item_of, source_of, group_of, quantified_of, selected_of, core_of, unions_of, all_unions_of}
-use Rattle.expr_grammar.proofs.ExprChains.{reach}
-use Rattle.expr_grammar.proofs.ExprComplete.{completes}
+use Rattle.med_syntax.proofs.ExprChains.{reach}
+use Rattle.med_syntax.proofs.ExprComplete.{completes}
 use Rattle.query_reader.proofs.PartComplete.{held, held_low, Takes, then_held, step_held, step_ok, Parted, Clear, Stops, first_none, label_reach, item_takes, follows_others, list_takes, listed_takes, condition_takes, flag_takes}
 use Rattle.query_reader.proofs.ClauseComplete.{chain_words, chain_takes, flat, group_takes}
 

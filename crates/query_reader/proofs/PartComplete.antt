@@ -8,21 +8,21 @@ use Rattle.med_value.specs.declared.operators.Operation.{Operation}
 use Rattle.med_value.specs.declared.operators.Operation.TheVariants.{Add, Subtract, Multiply, Divide, Remainder}
 use Rattle.med_syntax.specs.declared.expr.Joint.{Joint}
 use Rattle.med_syntax.specs.declared.expr.Joint.TheVariants.{Or, And}
-use Rattle.expr_grammar.specs.declared.refusal.Refusal.{Refusal}
-use Rattle.expr_grammar.specs.declared.refusal.Refusal.TheVariants.{TooHigh}
-use Rattle.expr_grammar.specs.declared.symbols.Separator.TheVariants.{Comma}
+use Rattle.med_syntax.specs.declared.refusal.Refusal.{Refusal}
+use Rattle.med_syntax.specs.declared.refusal.Refusal.TheVariants.{TooHigh}
+use Rattle.med_syntax.specs.declared.symbols.Separator.TheVariants.{Comma}
 use Rattle.med_syntax.specs.Tree.{Name}
 use Rattle.med_syntax.specs.Terminal.{Terminal}
 use Rattle.med_syntax.specs.Terminal as t
 use Rattle.med_syntax.specs.ExprTree.{ExprTree, ExprTrees, num, negative, text, truth, null, column, call_all, call, paren, minus, binary, between, among, like, compare, tested, negation, chain, none, more, perhaps_not, status_terminal, height, Fits, spelling, spellings, IsExpr}
-use Rattle.expr_grammar.specs.ExprReading.{◌>>=◌, below}
-use Rattle.expr_grammar.specs.ExprSteps.{behind_of}
+use Rattle.med_syntax.specs.ExprReading.{◌>>=◌, below}
+use Rattle.med_syntax.specs.ExprSteps.{behind_of}
 use Rattle.med_syntax.specs.QueryTree.{all, all_of, value, EntryTree, item_height, highest_of, condition_height}
-use Rattle.query_grammar.specs.QueryGrammar.{keywords, SpellsOthers, SpellsList, SpellsLabel, SpellsAlias, SpellsItem, SpellsEntry, SpellsFlag, SpellsPerhaps, SpellsListed, SpellsExpr}
-use Rattle.query_reader.specs.QueryReading.{Parser, behind_word, behind_words, flag_of, perhaps_name, label_after, value_of, item_of, others, list_of, alias_after, entry_of, perhaps_of, listed_of}
-use Rattle.query_grammar.proofs.QueryLabels.{label_is}
-use Rattle.expr_grammar.proofs.ExprChains.{low_or_high, reach}
-use Rattle.expr_grammar.proofs.ExprComplete.{completes}
+use Rattle.med_syntax.specs.QueryGrammar.{keywords, SpellsOthers, SpellsList, SpellsLabel, SpellsAlias, SpellsItem, SpellsEntry, SpellsFlag, SpellsPerhaps, SpellsListed, SpellsExpr}
+use Rattle.query_reader.specs.QueryReading.{Parser, behind_word, behind_words, flag_of, perhaps_name, label_after, value_item, item_of, others, list_of, alias_after, entry_of, perhaps_of, listed_of}
+use Rattle.med_syntax.proofs.QueryLabels.{label_is}
+use Rattle.med_syntax.proofs.ExprChains.{low_or_high, reach}
+use Rattle.med_syntax.proofs.ExprComplete.{completes}
 
 -- what is found, where its highest expression has room
 abbrev pub held : {X : Type 0} → ℕ → ℕ → X → List Terminal → Result (X × List Terminal) Refusal
@@ -143,7 +143,7 @@ alias_takes (Some n) ts rest (inr s) f = ap (λ us. alias_after (us ++ rest)) s
 
 -- ---- items
 
-name_skips : (room : ℕ) (n : Name) (rest : List Terminal) → reach rest ≤ 9 → item_of room (t.Name n ∷ rest) ≡ value_of room (t.Name n ∷ rest)
+name_skips : (room : ℕ) (n : Name) (rest : List Terminal) → reach rest ≤ 9 → item_of room (t.Name n ∷ rest) ≡ value_item room (t.Name n ∷ rest)
 name_skips room n [] h = refl
 name_skips room n (t.Dot ∷ us) h = absurd (omega (arith, h))
 name_skips room n (u ∷ us) h = refl
@@ -168,7 +168,7 @@ joints_reach j none rest h = h
 joints_reach j (more e es) rest h = joint_reach j ((spelling e ++ spellings (t.Joined j) es) ++ rest)
 
 -- no expression begins as an asterisk does
-item_skips : (room : ℕ) (e : ExprTree) (rest : List Terminal) → reach rest ≤ 9 → item_of room (spelling e ++ rest) ≡ value_of room (spelling e ++ rest)
+item_skips : (room : ℕ) (e : ExprTree) (rest : List Terminal) → reach rest ≤ 9 → item_of room (spelling e ++ rest) ≡ value_item room (spelling e ++ rest)
 item_skips room (num n) rest h = refl
 item_skips room (negative n) rest h = refl
 item_skips room (text x) rest h = refl
@@ -196,8 +196,8 @@ item_skips room (negation e) rest h = refl
 item_skips room (chain j first others) rest h =
     rw (append_assoc (spelling first) (spellings (t.Joined j) others) rest) (item_skips room first (spellings (t.Joined j) others ++ rest) (joints_reach j others rest h))
 
-value_step : (room : ℕ) (e : ExprTree) (label : Option Name) (middle rest : List Terminal) → Fits e → reach middle ≤ 0 → label_after middle ≡ Ok (label, rest) → value_of room (spelling e ++ middle) ≡ held room (height e) (value e label) rest
-unfolding value_of
+value_step : (room : ℕ) (e : ExprTree) (label : Option Name) (middle rest : List Terminal) → Fits e → reach middle ≤ 0 → label_after middle ≡ Ok (label, rest) → value_item room (spelling e ++ middle) ≡ held room (height e) (value e label) rest
+unfolding value_item
 value_step room e label middle rest f r reads =
     rw ((completes room).whole e middle f (omega arith) r) (then_ok room (height e) e label (value e label) middle rest label_after value reads refl)
 

@@ -5,22 +5,22 @@ use Rattle.std.specs.Str.{bytes_eq}
 use Rattle.std.proofs.lemmas.Slice.Eq.{bytes_eq-Decides}
 use Rattle.med_value.specs.declared.operators.Operation.TheVariants.{Multiply}
 use Rattle.med_syntax.specs.declared.expr.Joint.TheVariants.{Or, And}
-use Rattle.expr_grammar.specs.declared.refusal.Refusal.{Refusal}
-use Rattle.expr_grammar.specs.declared.refusal.Refusal.TheVariants.{Syntax}
-use Rattle.expr_grammar.specs.declared.symbols.Separator.TheVariants.{Comma}
+use Rattle.med_syntax.specs.declared.refusal.Refusal.{Refusal}
+use Rattle.med_syntax.specs.declared.refusal.Refusal.TheVariants.{Syntax}
+use Rattle.med_syntax.specs.declared.symbols.Separator.TheVariants.{Comma}
 use Rattle.med_syntax.specs.Tree.{Name}
 use Rattle.med_syntax.specs.Words.{is_reserved}
 use Rattle.med_syntax.specs.Terminal.{Terminal, word_terminal}
 use Rattle.med_syntax.specs.Terminal as t
 use Rattle.med_syntax.specs.ExprTree.{ExprTree, spelling, height}
-use Rattle.expr_grammar.specs.ExprReading.{◌>>=◌, choose, below}
-use Rattle.expr_grammar.specs.ExprSteps.{behind_of}
+use Rattle.med_syntax.specs.ExprReading.{◌>>=◌, choose, below}
+use Rattle.med_syntax.specs.ExprSteps.{behind_of}
 use Rattle.med_syntax.specs.QueryTree.{all, all_of, value, item_height, highest_of, condition_height}
-use Rattle.query_grammar.specs.QueryGrammar.{keywords, SpellsOthers, SpellsList, IsLabel, SpellsLabel, SpellsAlias, SpellsItem, SpellsEntry, SpellsFlag, SpellsPerhaps, SpellsListed, SpellsExpr}
-use Rattle.query_grammar.specs.QueryTerminals.{label_of}
-use Rattle.query_reader.specs.QueryReading.{Parser, behind_word, behind_words, flag_of, read_name, perhaps_name, label_at, label_after, value_of, item_of, others, list_of, alias_after, entry_of, perhaps_of, listed_of}
-use Rattle.expr_grammar.proofs.ExprSound.{bind_ok, ok_same, sounds}
-use Rattle.expr_grammar.proofs.ExprSound as expr
+use Rattle.med_syntax.specs.QueryGrammar.{keywords, SpellsOthers, SpellsList, IsLabel, SpellsLabel, SpellsAlias, SpellsItem, SpellsEntry, SpellsFlag, SpellsPerhaps, SpellsListed, SpellsExpr}
+use Rattle.med_syntax.specs.QueryTerminals.{label_of}
+use Rattle.query_reader.specs.QueryReading.{Parser, behind_word, behind_words, flag_of, read_name, perhaps_name, label_at, label_after, value_item, item_of, others, list_of, alias_after, entry_of, perhaps_of, listed_of}
+use Rattle.med_syntax.proofs.ExprSound.{bind_ok, ok_same, sounds}
+use Rattle.med_syntax.proofs.ExprSound as expr
 
 -- the front of the terminals spells x, which has room, and the rest is left
 pub record FoundPart {X : Type 0} (Spelling : X → List Terminal → Type 0) (high : X → ℕ) (room : ℕ) (ts : List Terminal) (x : X) (rest : List Terminal) : Type 0 where
@@ -160,8 +160,8 @@ found_value room ts middle e label rest f l = record {
   low = f.low;
 }
 
-value_sound : (room : ℕ) → Sound SpellsItem item_height room (value_of room)
-unfolding value_of
+value_sound : (room : ℕ) → Sound SpellsItem item_height room (value_item room)
+unfolding value_item
 value_sound room ts item rest h =
     let x = bind_ok ((below room).whole ts) (λ x. label_after x.1 >>= λ y. Ok (value x.0 y.0, y.1)) (item, rest) h in
     let y = bind_ok (label_after x.0.1) (λ y. Ok (value x.0.0 y.0, y.1)) (item, rest) x.2 in

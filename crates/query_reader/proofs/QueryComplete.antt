@@ -1,15 +1,15 @@
 -- What is spelled so is read so.
 use Rattle.std.proofs.Common.{◌≡◌, ℕ, ◌+◌, ◌≤◌, ◌<◌, inl, inr, true, List, [], ◌∷◌, ◌++◌, refl, sym, ◌∙◌, ap, subst, arith, append_assoc, codes}
 use Rattle.std.specs.Prelude.{max, Ok, Err, None}
-use Rattle.expr_grammar.specs.declared.refusal.Refusal.TheVariants.{TooHigh}
-use Rattle.expr_grammar.specs.declared.symbols.Separator.TheVariants.{Comma}
+use Rattle.med_syntax.specs.declared.refusal.Refusal.TheVariants.{TooHigh}
+use Rattle.med_syntax.specs.declared.symbols.Separator.TheVariants.{Comma}
 use Rattle.med_syntax.specs.Terminal.{Terminal}
 use Rattle.med_syntax.specs.Terminal as t
-use Rattle.expr_grammar.specs.ExprSteps.{behind_of}
+use Rattle.med_syntax.specs.ExprSteps.{behind_of}
 use Rattle.med_syntax.specs.QueryTree.{SelectTree, StatementTree, select, key_height, highest_of, core_height, select_height, statement_height}
-use Rattle.query_grammar.specs.QueryGrammar.{SpellsKey, SpellsLimits, SpellsListed, SpellsSelect, Spells, IsEnd, IsLine}
+use Rattle.med_syntax.specs.QueryGrammar.{SpellsKey, SpellsLimits, SpellsListed, SpellsSelect, Spells, IsEnd, IsLine}
 use Rattle.query_reader.specs.QueryReading.{key_of, query_of, statement_of, is_end, line_of}
-use Rattle.expr_grammar.proofs.ExprChains.{low_or_high}
+use Rattle.med_syntax.proofs.ExprChains.{low_or_high}
 use Rattle.query_reader.proofs.PartComplete.{held, held_low, held_high, Takes, Clear, first_none, listed_takes}
 use Rattle.query_reader.proofs.ClauseComplete.{key_words, key_takes, limits_lift, limit_words, limits_take}
 use Rattle.query_reader.proofs.CoreComplete.{Behind, core_words, order_words, listed_lift, parted, seq_held, seq_ok, same_height, core_takes, unions_behind, all_unions_take}

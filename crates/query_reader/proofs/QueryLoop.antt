@@ -1,15 +1,15 @@
 -- The loop over the items of a list, and over items that are in range.
 use Rattle.std.proofs.Common.{◌≡◌, ℕ, zero, suc, ◌≤◌, ◌<◌, List, [], ◌∷◌, ◌++◌, length, refl, sym, ◌∙◌, ap, subst, arith, append_assoc, append-nil, length-append, codes}
 use Rattle.std.specs.Prelude.{Result, Ok, Err, Option, Some, None, map}
-use Rattle.expr_grammar.specs.declared.refusal.ReadFault.{ReadFault}
-use Rattle.expr_grammar.specs.declared.refusal.ReadFault.TheVariants as faults
-use Rattle.expr_grammar.specs.declared.refusal.Refusal.{Refusal}
-use Rattle.expr_grammar.specs.declared.symbols.Separator.TheVariants.{Comma}
+use Rattle.med_syntax.specs.declared.refusal.ReadFault.{ReadFault}
+use Rattle.med_syntax.specs.declared.refusal.ReadFault.TheVariants as faults
+use Rattle.med_syntax.specs.declared.refusal.Refusal.{Refusal}
+use Rattle.med_syntax.specs.declared.symbols.Separator.TheVariants.{Comma}
 use Rattle.med_syntax.specs.Terminal.{Terminal}
 use Rattle.med_syntax.specs.Terminal as t
-use Rattle.expr_grammar.specs.ExprAnswers.{ReadsAs}
-use Rattle.expr_grammar.specs.ExprReading.{◌>>=◌}
-use Rattle.expr_grammar.specs.ExprSteps.{behind_of}
+use Rattle.med_syntax.specs.ExprAnswers.{ReadsAs}
+use Rattle.med_syntax.specs.ExprReading.{◌>>=◌}
+use Rattle.med_syntax.specs.ExprSteps.{behind_of}
 use Rattle.query_reader.specs.declared.query_source.JoinWay.{JoinWay}
 use Rattle.med_syntax.specs.QueryTree.{JoinTree, CoreTree}
 use Rattle.query_reader.specs.QueryReading.{Parser, behind_words, others, list_of, join_words, join_of, joins_of, all_joins_of, core_of, unions_of, all_unions_of}

@@ -1,11 +1,11 @@
 -- What a function that reads one part after the other returns.
 use Rattle.std.proofs.Common.{◌≡◌, List, refl}
 use Rattle.std.specs.Prelude.{Result, Ok, Err}
-use Rattle.expr_grammar.specs.declared.refusal.ReadFault.{ReadFault}
-use Rattle.expr_grammar.specs.declared.refusal.ReadFault.TheVariants as faults
-use Rattle.expr_grammar.specs.declared.refusal.Refusal.{Refusal}
+use Rattle.med_syntax.specs.declared.refusal.ReadFault.{ReadFault}
+use Rattle.med_syntax.specs.declared.refusal.ReadFault.TheVariants as faults
+use Rattle.med_syntax.specs.declared.refusal.Refusal.{Refusal}
 use Rattle.med_syntax.specs.Terminal.{Terminal}
-use Rattle.expr_grammar.specs.ExprAnswers.{ReadsAs}
+use Rattle.med_syntax.specs.ExprAnswers.{ReadsAs}
 use Rattle.query_reader.specs.QueryReading.{Parser, seq}
 
 -- where the first part was read, what is returned of the others

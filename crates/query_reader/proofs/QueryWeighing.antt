@@ -1,23 +1,23 @@
 -- The height of a statement's expressions is bounded by its heavy terminals.
 use Rattle.std.proofs.Common.{◌≡◌, ℕ, ◌+◌, ◌*◌, ◌≤◌, ◌<◌, ◌⊎◌, Bool, true, false, cond, List, [], ◌∷◌, ◌++◌, refl, sym, ◌∙◌, ap, arith, codes}
 use Rattle.std.specs.Prelude.{Ok, Err, Some, None, count_by}
-use Rattle.expr_grammar.specs.declared.refusal.Refusal.TheVariants.{Syntax, TooHigh}
+use Rattle.med_syntax.specs.declared.refusal.Refusal.TheVariants.{Syntax, TooHigh}
 use Rattle.std.proofs.lemmas.List.Recursion.{is_count_by}
 use Rattle.med_lexer.specs.Lexemes.{Shape, word, quoted, literal, number, mark}
-use Rattle.query_grammar.specs.declared.query_symbols.Place.{Place}
-use Rattle.expr_grammar.specs.Shapes.{deepens}
-use Rattle.expr_grammar.specs.ExprTerminals.{follows, terminal_at}
-use Rattle.query_grammar.specs.QueryTerminals.{is_one_of, keywords_at, word_at, words_at, place_behind}
+use Rattle.med_syntax.specs.declared.query_symbols.Place.{Place}
+use Rattle.med_syntax.specs.Shapes.{deepens}
+use Rattle.med_syntax.specs.ExprTerminals.{follows, terminal_at}
+use Rattle.med_syntax.specs.QueryTerminals.{is_one_of, keywords_at, word_at, words_at, place_behind}
 use Rattle.med_syntax.specs.Terminal.{Terminal}
 use Rattle.med_syntax.specs.Terminal as t
 use Rattle.med_syntax.specs.ExprTree.{ExprTree, height, IsExpr}
-use Rattle.expr_grammar.specs.ExprWeight.{is_heavy, weight}
+use Rattle.med_syntax.specs.ExprWeight.{is_heavy, weight}
 use Rattle.med_syntax.specs.QueryTree.{ItemTree, all, all_of, value, EntryTree, inner_join, left_join, cross_join, StatementTree, select, item_height, join_height, chain_height, key_height, highest_of, condition_height, core_height, select_height, statement_height}
-use Rattle.query_grammar.specs.QueryGrammar.{keywords, SpellsOthers, SpellsList, SpellsItem, SpellsOn, SpellsJoin, SpellsJoins, SpellsChain, SpellsKey, SpellsPerhaps, SpellsListed, SpellsExpr, SpellsCore, SpellsUnions, SpellsSelect, Spells, IsLine}
+use Rattle.med_syntax.specs.QueryGrammar.{keywords, SpellsOthers, SpellsList, SpellsItem, SpellsOn, SpellsJoin, SpellsJoins, SpellsChain, SpellsKey, SpellsPerhaps, SpellsListed, SpellsExpr, SpellsCore, SpellsUnions, SpellsSelect, Spells, IsLine}
 use Rattle.query_reader.specs.QueryReading.{line_of, bounded_line}
-use Rattle.expr_grammar.proofs.BoundedReading.{ReadsInRoom, tried_sound, tried_out, tried_told}
-use Rattle.expr_grammar.proofs.ExprWeighing.{weight_append, weight_more, weight_step, heavy_at, deep, bound}
-use Rattle.query_grammar.proofs.QueryKeywords.{keyword_name}
+use Rattle.med_syntax.proofs.BoundedReading.{ReadsInRoom, tried_sound, tried_out, tried_told}
+use Rattle.med_syntax.proofs.ExprWeighing.{weight_append, weight_more, weight_step, heavy_at, deep, bound}
+use Rattle.med_syntax.proofs.QueryKeywords.{keyword_name}
 use Rattle.query_reader.proofs.QueryComplete.{reads_line, refuses_line}
 use Rattle.query_reader.proofs.QuerySound.{line_sound}
 

@@ -2,19 +2,19 @@
 use Rattle.std.specs.Prelude.{ℕ, zero, suc, Bool, true, false, cond, List, [], ◌∷◌, length, codes, Result, Ok, Err, Option, Some, None}
 use Rattle.std.specs.Str.{bytes_eq}
 use Rattle.med_value.specs.declared.operators.Operation.TheVariants.{Multiply}
-use Rattle.expr_grammar.specs.declared.refusal.Refusal.{Refusal}
-use Rattle.expr_grammar.specs.declared.refusal.Refusal.TheVariants.{Syntax}
-use Rattle.expr_grammar.specs.declared.symbols.Separator.TheVariants.{Comma}
+use Rattle.med_syntax.specs.declared.refusal.Refusal.{Refusal}
+use Rattle.med_syntax.specs.declared.refusal.Refusal.TheVariants.{Syntax}
+use Rattle.med_syntax.specs.declared.symbols.Separator.TheVariants.{Comma}
 use Rattle.query_reader.specs.declared.query_source.JoinWay.{JoinWay}
 use Rattle.query_reader.specs.declared.query_source.JoinWay.TheVariants as ways
-use Rattle.query_grammar.specs.QueryTerminals.{label_of}
+use Rattle.med_syntax.specs.QueryTerminals.{label_of}
 use Rattle.med_syntax.specs.Tree.{Name}
 use Rattle.med_syntax.specs.Terminal.{Terminal}
 use Rattle.med_syntax.specs.Terminal as t
 use Rattle.med_syntax.specs.ExprTree.{ExprTree}
-use Rattle.expr_grammar.specs.ExprReading.{◌>>=◌, choose, below}
-use Rattle.expr_grammar.specs.ExprSteps.{behind_of}
-use Rattle.expr_grammar.specs.ExprWeight.{bounded}
+use Rattle.med_syntax.specs.ExprReading.{◌>>=◌, choose, below}
+use Rattle.med_syntax.specs.ExprSteps.{behind_of}
+use Rattle.med_syntax.specs.ExprWeight.{bounded}
 use Rattle.med_syntax.specs.QueryTree.{ItemTree, all, all_of, value, EntryTree, JoinTree, inner_join, left_join, cross_join, ChainTree, GroupTree, KeyTree, LimitTree, no_limit, rows, CoreTree, SelectTree, StatementTree, select}
 
 -- what stands at the front and the terminals behind it, or the refusal
@@ -59,13 +59,13 @@ label_at (u ∷ ts) = choose (label_of u) (Err Syntax) (λ n. Ok (Some n, ts))
 unfoldable pub label_after : Parser (Option Name)
 label_after ts = choose (behind_word (codes "as") ts) (perhaps_name ts) label_at
 
-unfoldable pub value_of : ℕ → Parser ItemTree
-value_of room ts = (below room).whole ts >>= λ x. label_after x.1 >>= λ y. Ok (value x.0 y.0, y.1)
+unfoldable pub value_item : ℕ → Parser ItemTree
+value_item room ts = (below room).whole ts >>= λ x. label_after x.1 >>= λ y. Ok (value x.0 y.0, y.1)
 
 abbrev pub item_of : ℕ → Parser ItemTree
 item_of room (t.Binary Multiply ∷ ts) = Ok (all, ts)
 item_of room (t.Name q ∷ t.Dot ∷ t.Binary Multiply ∷ ts) = Ok (all_of q, ts)
-item_of room ts = value_of room ts
+item_of room ts = value_item room ts
 
 -- {, x}, of at most as many as the number
 unfoldable pub others : {X : Type 0} → Parser X → ℕ → Parser (List X)

@@ -1,17 +1,16 @@
 //! GROUP BY, ORDER BY, LIMIT and OFFSET, by recursive descent.
 
-ghost use Rattle.expr_grammar.specs.ExprAnswers.{ReadsAs};
-ghost use Rattle.expr_grammar.specs.SymbolView.{terminals_of};
+ghost use Rattle.med_syntax.specs.ExprAnswers.{ReadsAs};
+ghost use Rattle.med_syntax.specs.SymbolView.{terminals_of};
 ghost use Rattle.med_syntax.specs.ExprView.{expr_tree};
 ghost use Rattle.med_syntax.specs.QueryView.{group_tree, key_tree, limit_tree};
 ghost use Rattle.query_reader.specs.QueryReading as reading;
 ghost use Rattle.std.specs.Prelude.{◌≡◌, ◌<◌, ◌∷◌, [], codes, option_map, map};
-ghost use Rattle.std.specs.String.{string_bytes};
 
 use crate::query_statement::{behind_two, behind_word};
-use expr_grammar::refusal::{ReadFault, Refusal};
-use expr_grammar::symbols::{Separator, Symbol, Symbols, behind};
 use expr_reader::whole;
+use med_syntax::refusal::{ReadFault, Refusal};
+use med_syntax::symbols::{Separator, Symbol, Symbols, behind};
 use med_syntax::{Expr, GroupColumn, Limit, OrderKey};
 use std::alloc::Global;
 

@@ -1,7 +1,7 @@
 //! What stands behind FROM, by recursive descent.
 
-ghost use Rattle.expr_grammar.specs.ExprAnswers.{ReadsAs};
-ghost use Rattle.expr_grammar.specs.SymbolView.{terminals_of};
+ghost use Rattle.med_syntax.specs.ExprAnswers.{ReadsAs};
+ghost use Rattle.med_syntax.specs.SymbolView.{terminals_of};
 ghost use Rattle.med_syntax.specs.ExprView.{expr_tree};
 ghost use Rattle.med_syntax.specs.QueryView.{chain_tree, entry_tree, join_tree};
 ghost use Rattle.query_reader.specs.QueryReading as reading;
@@ -9,9 +9,9 @@ ghost use Rattle.std.specs.Prelude.{◌≡◌, ◌<◌, ◌∷◌, [], codes, op
 ghost use Rattle.std.specs.String.{string_bytes};
 
 use crate::query_statement::{behind_three, behind_two, behind_word, name, perhaps_name};
-use expr_grammar::refusal::{ReadFault, Refusal};
-use expr_grammar::symbols::{Separator, Symbols, behind, onward};
 use expr_reader::whole;
+use med_syntax::refusal::{ReadFault, Refusal};
+use med_syntax::symbols::{Separator, Symbols, behind, onward};
 use med_syntax::{Chain, Entry, Expr, Join};
 use std::alloc::Global;
 

@@ -1,20 +1,20 @@
 //! Statements, by recursive descent.
 
-ghost use Rattle.expr_grammar.specs.ExprAnswers.{ReadsAs};
-ghost use Rattle.expr_grammar.specs.ExprReading.{below};
-ghost use Rattle.expr_grammar.specs.SymbolView.{terminal_of_symbol, terminals_of};
+ghost use Rattle.med_syntax.specs.ExprAnswers.{ReadsAs};
+ghost use Rattle.med_syntax.specs.ExprReading.{below};
+ghost use Rattle.med_syntax.specs.SymbolView.{terminal_of_symbol, terminals_of};
 ghost use Rattle.med_syntax.specs.ExprView.{expr_tree};
 ghost use Rattle.med_syntax.specs.QueryView.{core_tree, item_tree, items_tree, select_tree, statement_tree};
-ghost use Rattle.query_grammar.specs.QueryTerminals.{label_of};
+ghost use Rattle.med_syntax.specs.QueryTerminals.{label_of};
 ghost use Rattle.query_reader.specs.QueryReading as reading;
 ghost use Rattle.std.specs.Prelude.{◌≡◌, ◌<◌, ◌∷◌, [], map, option_map};
 ghost use Rattle.std.specs.String.{string_bytes};
 
 use crate::query_keys::{flag, groups, keys, limits};
 use crate::query_source::chains;
-use expr_grammar::refusal::{ReadFault, Refusal};
-use expr_grammar::symbols::{Separator, Symbol, Symbols, behind, onward};
 use expr_reader::whole;
+use med_syntax::refusal::{ReadFault, Refusal};
+use med_syntax::symbols::{Separator, Symbol, Symbols, behind, onward};
 use med_syntax::{Core, Expr, Item, Joint, Select, Statement, is_reserved};
 use med_value::Operation;
 use std::alloc::Global;
@@ -124,10 +124,10 @@ fn label(alloc: Global, symbols: Symbols<'_>) -> Result<(Option<String>, Symbols
 }
 
 /// The expression at the front with its label.
-#[tactic(auto, unfolding(crate::specs::QueryReading::value_of))]
+#[tactic(auto, unfolding(crate::specs::QueryReading::value_item))]
 fn value(alloc: Global, room: u32, symbols: Symbols<'_>) -> Result<(Item, Symbols<'_>), ReadFault>
     requires { room < 1000 }
-    ensures { ReadsAs (λ x. (item_tree x.0, terminals_of x.1.now)) result (reading.value_of room (terminals_of symbols.now)) }
+    ensures { ReadsAs (λ x. (item_tree x.0, terminals_of x.1.now)) result (reading.value_item room (terminals_of symbols.now)) }
 {
     let found = whole(alloc, room, symbols)?;
     let (label, rest) = label(alloc, found.rest)?;

@@ -1,22 +1,21 @@
 //! Tokens to statements.
 
-ghost use Rattle.expr_grammar.specs.ExprAnswers.{ReadsAs};
-ghost use Rattle.expr_grammar.specs.ExprTerminals.{AreReadable};
-ghost use Rattle.expr_grammar.specs.SymbolView.{terminals_of};
-ghost use Rattle.expr_grammar.specs.View.{shapes_of};
+ghost use Rattle.med_syntax.specs.ExprAnswers.{ReadsAs};
+ghost use Rattle.med_syntax.specs.ExprTerminals.{AreReadable};
+ghost use Rattle.med_syntax.specs.SymbolView.{terminals_of};
+ghost use Rattle.med_syntax.specs.View.{shapes_of};
 ghost use Rattle.med_syntax.specs.QueryView.{statement_tree};
-ghost use Rattle.query_grammar.specs.QueryTerminals.{words_at};
+ghost use Rattle.med_syntax.specs.QueryTerminals.{words_at};
 ghost use Rattle.query_reader.specs.QueryReading.{bounded_line};
 ghost use Rattle.std.specs.Prelude.{false};
 
 use crate::query_statement::line;
-use expr_grammar::refusal::{ReadFault, Refusal};
-use expr_grammar::symbols::Symbols;
-use expr_grammar::weighing::{ROOM, weight};
-use med_lexer::Token;
-use med_syntax::Statement;
+use med_syntax::refusal::{ReadFault, Refusal};
+use med_syntax::symbols::Symbols;
+use med_syntax::token_list::Tokens;
+use med_syntax::weighing::{ROOM, weight};
+use med_syntax::{Place, Statement, words_of};
 use med_value::limits::HEIGHT_LIMIT;
-use query_grammar::{Place, words_of};
 use std::alloc::Global;
 
 /// The statement that all of the symbols are. Where few of them are heavy, what is told to be too high is a statement.
@@ -41,7 +40,7 @@ fn bounded(alloc: Global, symbols: Symbols<'_>) -> Result<Statement, ReadFault>
 }
 
 /// The statement that all of the tokens are.
-pub fn statement_of(alloc: Global, tokens: &[Token]) -> Result<Statement, ReadFault>
+pub fn statement_of(alloc: Global, tokens: Tokens<'_>) -> Result<Statement, ReadFault>
     requires { AreReadable (shapes_of tokens.now) }
     ensures { ReadsAs statement_tree result (bounded_line (words_at (Place.Before false) false (shapes_of tokens.now))) }
 {

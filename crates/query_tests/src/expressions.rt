@@ -2,10 +2,9 @@
 //! expressions stand in the streams of the program, tests/streams/language/values_* and verdicts_on_rows_and_groups.
 use crate::build::{build, class, parameters, part};
 use crate::rows::{Answer, assert_rows};
-use expr_parts::{arguments, conjuncts, is_same};
 use std::alloc::Global;
 use std::test::Fail;
-use tri_expr::{Expr, eval, eval_class};
+use tri_expr::{Expr, arguments, conjuncts, eval, eval_class, is_same};
 
 /// The value of an expression on a row.
 struct RowValue;

@@ -1,10 +1,10 @@
 //! Whether the rows of a query fit the columns into which they are inserted. What is given by VALUES is in tests/streams/writes.
+use bind_write::{places_for, written_columns};
+use med_exec::fits;
 use med_value::{ColType, ColumnDef, NoMemory, Row, Value};
 use med_write::{BoundWrite, Given, RowWrite};
 use std::alloc::Global;
 use std::test::Fail;
-use write_exec::fits;
-use write_parts::{places_for, written_columns};
 
 // A row of a query, `z` being a text with the character U+0000, and whether it can be inserted into name and id.
 const FITTING: &str = "\

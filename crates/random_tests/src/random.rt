@@ -11,6 +11,7 @@ ghost use Rattle.std.specs.List.{list_all};
 ghost use Rattle.std.specs.Prelude.{◌≡◌, ◌<◌, ◌&&◌, true, [], ◌∷◌, IfOk, map};
 ghost use Rattle.std.specs.String.{string_bytes};
 
+use crate::plain_answer;
 use bench_tables::law::lists_take_tables;
 use fdw_api::wishes::Wrapper2;
 use fed_cli::Ended;
@@ -21,7 +22,6 @@ use med_parser::{Command, parse};
 use med_session::{Engine, Request, Sid, SourceKind};
 use med_value::text::row_text;
 use med_value::{ColType, ColumnDef, NoMemory, Row, TableNo, Value};
-use plain_select::plain_answer;
 use probe_wrapper::Shuffled;
 use std::alloc::Global;
 use std::str::from_utf8;

@@ -1,5 +1,5 @@
 -- A run of engines is a run of each world that the first engine stands for.
-use Rattle.std.proofs.Common.{◌≡◌, ℕ, List, Option, refl, sym, ap, ◌∙◌, subst}
+use Rattle.std.proofs.Common.{◌≡◌, ℕ, List, Option, refl, sym, ap, subst}
 use Rattle.fdw_api.specs.State.{BoxState}
 use Rattle.med_session.specs.World.{World, without_sessions}
 use Rattle.med_session.specs.Engine.{Agrees, Befell, EachRises}

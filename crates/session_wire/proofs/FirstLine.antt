@@ -1,5 +1,5 @@
 -- What the codec finds at the front of some bytes is the first of their lines.
-use Rattle.std.proofs.Common.{◌≡◌, ℕ, suc, ◌+◌, ◌<◌, ◌≤◌, ◌==◌, nat_lt, nat_le, Bool, true, false, cond, List, [], ◌∷◌, ◌++◌, length, take, drop, refl, sym, ap, ◌∙◌, subst, Some, None, arith, append-nil, length-append, inl, inr, ◌⊎◌, add-one}
+use Rattle.std.proofs.Common.{◌≡◌, ℕ, suc, ◌+◌, ◌<◌, ◌≤◌, ◌==◌, nat_lt, nat_le, Bool, true, false, cond, List, [], ◌∷◌, ◌++◌, length, take, drop, refl, sym, ap, ◌∙◌, Some, None, arith, append-nil, length-append, inl, inr, ◌⊎◌, add-one}
 use Rattle.std.proofs.lemmas.Bool.{cases_lt}
 use lib.Seq.{take-append_seam}
 use Rattle.std.proofs.lemmas.Bool.Decides.{nat_tests}
@@ -8,7 +8,7 @@ use Rattle.std.specs.List.{position_or_len}
 use Rattle.tokio_util.specs.Codec.Lines.{without_carriage_return, Scan, line as found, too_long, unfinished, newline_from, read_line}
 use Rattle.tokio_util.specs.Codec.LinesLaws.{read_line_found, read_line_long, read_line_short}
 use Rattle.session_wire.specs.Lines.{Lines, line, rest, closed, split, is_line, up_to_closing, lines_within, unread_after}
-use Rattle.session_wire.proofs.Pieces.{HasNoLf, split_front, rest_has_no_lf}
+use Rattle.session_wire.proofs.Pieces.{HasNoLf, split_front}
 
 -- the lines that begin with what a scan found
 abbrev pub from_scan : ℕ → Scan → Lines
@@ -107,14 +107,3 @@ ends_with_rest limit (l ∷ ls) r after e = at_line (is_line limit l) refl (ends
 pub within_ends : (limit : ℕ) (xs after : List ℕ) → unread_after (lines_within limit xs) ≡ Some after → (after ≡ (split xs).1) × (nat_lt limit (length (split xs).1) ≡ false)
 unfolding lines_within
 within_ends limit xs after e = ends_with_rest limit (split xs).0 (split xs).1 after e
-
--- what is left unread is no line yet
-pub rest_is_rest : (limit : ℕ) (xs after : List ℕ) → unread_after (lines_within limit xs) ≡ Some after → lines_within limit after ≡ rest after
-rest_is_rest limit xs after e =
-    let both = within_ends limit xs after e in
-    let free : HasNoLf after = subst HasNoLf (sym both.0) (rest_has_no_lf xs) in
-    lines_free limit after free ∙ rw (both.0, both.1) refl
-
-pub lines_of_none : (limit : ℕ) → lines_within limit [] ≡ rest []
-unfolding lines_within
-lines_of_none limit = let t : nat_lt limit 0 ≡ false = grind (arith, nat_tests) in rw t refl

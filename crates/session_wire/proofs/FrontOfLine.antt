@@ -35,9 +35,6 @@ left_is_front bytes after e =
     let short : length after ≤ line_limit = grind (arith, nat_tests) in
     record { has_no_lf = rw both.0 (test-from_no_lf _ (rest_has_no_lf bytes)); is_short = short }
 
-pub front_none : IsFrontOfLine []
-front_none = record { has_no_lf = refl; is_short = omega arith }
-
 -- and stays one with more bytes that have no LF, while it is short
 pub front-append : (bytes piece : List ℕ) → IsFrontOfLine bytes → list_any (λ b. b == 10) piece ≡ false → length piece ≤ line_limit - length bytes → IsFrontOfLine (bytes ++ piece)
 front-append bytes piece h e s =

@@ -8,3 +8,9 @@ pub mod UniqueFrames
 pub mod Runs
 pub mod Follows
 pub mod EngineRuns
+mod Named
+mod Replying
+mod Faring
+mod Joined
+mod Opened
+mod Leased

@@ -7,3 +7,7 @@ pub mod Ends
 pub mod Engines
 pub mod Servers
 pub mod Worlds
+pub mod Exchanges
+pub mod Fetching
+pub mod Runs
+pub mod Leases

@@ -13,8 +13,8 @@ use Rattle.med_catalog.specs.Options.{is_unknown, has_unknown, repeats, text_of,
 use Rattle.med_catalog.specs.DdlCauses.{some_options}
 use Rattle.med_catalog.specs.Changes.{AreDeclared}
 use Rattle.med_world.specs.Engine.{TakesAs}
-use Rattle.jsonl_tables.specs.Fields.{Reader, is_member_option, member_of, readers_from, readers_of, reads_member, members_differ}
-use Rattle.jsonl_tables.specs.Jsonl.{json_kind, json_objections}
+use Rattle.jsonl_wrapper.specs.Fields.{Reader, is_member_option, member_of, readers_from, readers_of, reads_member, members_differ}
+use Rattle.jsonl_wrapper.specs.Jsonl.{json_kind, json_objections}
 use Rattle.source_kinds.proofs.Rows.{or_left, or_right, bytes_sym, members_once, options_known}
 
 -- ---- the options of the table are none but its remote name

@@ -1,7 +1,7 @@
 -- New SQLite databases as sources.
 use Rattle.std.specs.Prelude.{◌≡◌, ℕ, Bool, true, false, List, [], Option, Some, None, codes, bytes_eq}
-use Rattle.either_source.specs.declared.EitherSource.{EitherSource}
-use Rattle.either_source.specs.declared.EitherSource.TheVariants.{First, Second}
+use Rattle.source_kinds.specs.declared.either.EitherSource.{EitherSource}
+use Rattle.source_kinds.specs.declared.either.EitherSource.TheVariants.{First, Second}
 use Rattle.fdw_api.specs.Kinds.{Stored}
 use Rattle.fdw_api.specs.State.{BoxState}
 use Rattle.sqlite.specs.Effect.{Database}
@@ -12,7 +12,7 @@ use Rattle.sqlite.specs.declared.error.Error.{Error}
 use Rattle.sqlite.specs.declared.error.Error.TheVariants.{SqliteFailure}
 use Rattle.sqlite.specs.declared.error.ErrorCode.{ErrorCode}
 use Rattle.sqlite.specs.declared.error.ErrorCode.TheVariants as error_codes
-use Rattle.sqlite_databases.specs.Found.{Errors, Images, IsFoundAt}
+use Rattle.sqlite_writes.specs.Found.{Errors, Images, IsFoundAt}
 use Rattle.source_kinds.specs.declared.sources.OpenFault.{OpenFault}
 use Rattle.source_kinds.specs.declared.sources.OpenFault.TheVariants as faults
 use Rattle.sqlite_wrapper.specs.SqliteBoxes.{IsNewSqlite}

@@ -1,7 +1,7 @@
 -- The folder whose files a source has.
 use Rattle.std.specs.Prelude.{Option, Some, None}
-use Rattle.either_source.specs.declared.EitherSource.{EitherSource}
-use Rattle.either_source.specs.declared.EitherSource.TheVariants.{First, Second}
+use Rattle.source_kinds.specs.declared.either.EitherSource.{EitherSource}
+use Rattle.source_kinds.specs.declared.either.EitherSource.TheVariants.{First, Second}
 use Rattle.fdw_api.specs.declared.lift.Lift.{Lift}
 use Rattle.blob_store.specs.declared.folder.Folder.{Folder}
 use Rattle.csv_wrapper.specs.declared.wrapper.CsvWrapper.{CsvWrapper}

@@ -8,7 +8,7 @@ ghost use Rattle.med_world.specs.Engine.{TakesAs};
 ghost use Rattle.list_wrapper.specs.Lists.{Listed, list_kind, IsNewList};
 ghost use Rattle.csv_wrapper.specs.CsvKind.{csv_kind};
 ghost use Rattle.csv_wrapper.specs.CsvBoxes.{IsNewCsv};
-ghost use Rattle.jsonl_tables.specs.Jsonl.{json_kind};
+ghost use Rattle.jsonl_wrapper.specs.Jsonl.{json_kind};
 ghost use Rattle.jsonl_wrapper.specs.Boxes.{IsNewJsonl};
 ghost use Rattle.sqlite_wrapper.specs.Kinds.{sqlite_kind};
 

@@ -7,24 +7,24 @@ ghost use Rattle.med_world.specs.Engine.{TakesAs};
 ghost use Rattle.list_wrapper.specs.ListBoxes.{box_of};
 ghost use Rattle.csv_wrapper.specs.CsvBoxes.{IsNewCsv};
 ghost use Rattle.jsonl_wrapper.specs.Boxes.{IsNewJsonl};
-ghost use Rattle.sqlite_databases.specs.Found.{ShowsAt};
+ghost use Rattle.sqlite_writes.specs.Found.{ShowsAt};
 ghost use Rattle.source_kinds.specs.Databases.{IsNewDatabase, IsNewFile, IsNewMemory, ToldNotOpened, database_in, is_memory, open_fault};
 ghost use Rattle.source_kinds.specs.Folders.{folder_in};
 
+use crate::EitherSource;
 use crate::law::{
     csv_takes_its_tables, jsonl_takes_its_tables, lists_take_their_tables, sqlite_takes_its_tables,
 };
 use blob_store::{Disks, Folder};
 use csv_wrapper::CsvWrapper;
-use either_source::EitherSource;
 use fdw_api::Lift;
 use fdw_api::interface::Wrapper;
 use jsonl_wrapper::JsonlWrapper;
 use list_wrapper::ListWrapper;
 use med_value::NoMemory;
 use sqlite::{Error as DatabaseError, ErrorCode, MemStore};
-use sqlite_databases::{Databases, memory_database, open_database};
 use sqlite_wrapper::SqliteWrapper;
+use sqlite_writes::{Databases, memory_database, open_database};
 use std::alloc::Global;
 use thiserror::Error;
 

@@ -14,8 +14,8 @@ ghost use Rattle.source_tests.specs.Writing.{IsWriting};
 use fdw_api::interface::{Fault, Wrapper};
 use med_value::{ColType, ColumnDef, NoMemory, Row, TableNo, Value};
 use sqlite::{Connection, Error, MemStore};
-use sqlite_databases::memory_database;
 use sqlite_wrapper::SqliteWrapper;
+use sqlite_writes::memory_database;
 use std::alloc::Global;
 use std::test::Fail;
 

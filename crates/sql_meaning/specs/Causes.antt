@@ -1,5 +1,5 @@
 -- The causes of refusal that stand for a request in a world: a set of causes, with no order of checks.
-use Rattle.std.specs.Prelude.{◌≡◌, ◌<◌, ◌≤◌, ◌⊎◌, ℕ, zero, suc, Bool, true, false, List, [], ◌∷◌, map, flat_map, length, Option, Some, None, IsSome, Contains, IsPermutation, unwrap_or, slice_get}
+use Rattle.std.specs.Prelude.{◌≡◌, ◌<◌, ◌≤◌, ◌⊎◌, ℕ, zero, suc, Bool, true, false, List, [], ◌∷◌, map, flat_map, length, Option, Some, None, IsSome, Contains, IsPermutation, slice_get}
 use Rattle.std.specs.List.{list_any}
 use Rattle.med_value.specs.Causes.{phase_of}
 use Rattle.med_value.specs.declared.cause.Cause.{Cause}
@@ -21,12 +21,12 @@ use Rattle.med_syntax.specs.WriteTree.{GivenTree, values, rows_of, WriteTree, in
 use Rattle.med_write.specs.declared.write.WrittenColumn.{WrittenColumn}
 use Rattle.med_write.specs.Form.{WriteForm}
 use Rattle.med_write.specs.Writing.{rows_written, write_faults, write_lacks, changes_of}
-use Rattle.write_parts.specs.Meaning.{target_of, columns_in, written_column, write_meant}
-use Rattle.write_parts.specs.Naming.{WriteNames}
-use Rattle.write_parts.specs.Typing.{WriteTypes}
+use Rattle.bind_write.specs.Meaning.{target_of, columns_in, written_column, write_meant}
+use Rattle.bind_write.specs.Naming.{WriteNames}
+use Rattle.bind_write.specs.Typing.{WriteTypes}
 use Rattle.med_catalog.specs.Objects.{TableObject, table_named}
 use Rattle.med_catalog.specs.Changes.{ObjectChange, new_server, new_table, Asks}
-use Rattle.med_catalog.specs.DdlCauses.{DdlCauses}
+use Rattle.med_catalog.specs.DdlCauses.{DdlCauses, phase}
 use Rattle.med_binder.specs.Tables.{shapes}
 use Rattle.med_binder.specs.Queries.{meant_by, QueryNames, QueryTypes}
 use Rattle.med_parser.specs.CommandTree.{CommandTree, on_data, on_rows, on_cursors, on_objects}
@@ -34,7 +34,7 @@ use Rattle.med_parser.specs.CommandGrammar.{HasCommand}
 use Rattle.med_value.specs.Limits.{cursor_limit}
 use Rattle.sql_meaning.specs.Picks.{Pick, PicksAnswer, IsNumbering, as_given}
 use Rattle.sql_meaning.specs.Requests.{AskedLine, opening, sql, bye, IsUser}
-use Rattle.sql_meaning.specs.World.{World, Session, IsOpen, cells_of, rows_in, rows_named, IsFree, Serves, is_shared_server, is_shared, is_leased}
+use Rattle.sql_meaning.specs.World.{World, Session, IsOpen, cells_of, rows_of_place, rows_named, IsFree, Serves, is_shared_server, is_shared, is_leased}
 use Rattle.sql_meaning.specs.Cursors.{cursor_named}
 use Rattle.sql_meaning.specs.Sizes.{is_large_form}
 
@@ -62,7 +62,7 @@ abbrev pub meant_over : World → SelectTree → Meant
 meant_over w q = meant_by w.catalog q
 
 abbrev pub entries_in : World → SelectTree → Tables
-entries_in w q = entry_tables (meant_over w q).entries (rows_in w.rows)
+entries_in w q = entry_tables (meant_over w q).entries (rows_of_place w.rows)
 
 -- Phase 5: 54000 where it has more than 8 cores, or FROM of one of them more than 8 entries.
 abbrev pub QueryState : World → SelectTree → Cause → Type 0
@@ -242,10 +242,6 @@ IsPickOf w sid request p =
     (s : Session) (tree : CommandTree) → IsStatementOf w sid request s tree → IsWellFormed request → IsPick w s tree p
 
 -- ---- which is told
-
--- the phase of a cause; want of memory and a source's fault have none, and never stand
-abbrev pub phase : Cause → ℕ
-phase c = unwrap_or (phase_of c) 7
 
 -- a cause of the least phase in which one stands
 pub record IsTold (w : World) (sid : ℕ) (p : Pick) (request : AskedLine) (c : Cause) : Type 0 where

@@ -11,7 +11,7 @@ use Rattle.med_syntax.specs.WriteTree.{WriteTree, insert, update, delete}
 use Rattle.med_syntax.specs.CursorTree.{CountTree, CursorTree, declare, fetch, close}
 use Rattle.bind_names.specs.Scope.{query_entries}
 use Rattle.med_write.specs.Writing.{count_of, rows_after}
-use Rattle.write_parts.specs.Meaning.{target_of}
+use Rattle.bind_write.specs.Meaning.{target_of}
 use Rattle.med_syntax.specs.Tree.{Name}
 use Rattle.med_catalog.specs.Objects.{TableObject, server_named}
 use Rattle.med_catalog.specs.Changes.{ObjectChange, new_table, no_server, no_table, changed, Asks}

@@ -68,10 +68,10 @@ abbrev pub cells_of : List Held → List Tuple
 cells_of rows = map (λ h. h.cells) rows
 
 -- the rows of the table in each place; none past the end
-abbrev pub rows_in : List (List Held) → ℕ → List Tuple
-rows_in [] place = []
-rows_in (r ∷ rs) zero = cells_of r
-rows_in (r ∷ rs) (suc place) = rows_in rs place
+abbrev pub rows_of_place : List (List Held) → ℕ → List Tuple
+rows_of_place [] place = []
+rows_of_place (r ∷ rs) zero = cells_of r
+rows_of_place (r ∷ rs) (suc place) = rows_of_place rs place
 
 -- the rows of the first table of this name; none where there is no such table
 abbrev pub rows_named : Name → List TableObject → List (List Held) → List Held

@@ -5,19 +5,15 @@ use Rattle.med_syntax.specs.declared.statement.Statement.{Statement}
 use Rattle.med_syntax.specs.declared.statement.Statement.TheVariants as s
 use Rattle.med_syntax.specs.QueryView.{statement_tree}
 use Rattle.expr_writer.specs.ExprPrinting.{shapes_for, Wrote}
-use Rattle.query_grammar.specs.QueryCauses.{statement_in_range}
-use Rattle.sql_print.specs.QueryPrinting.{statement_written}
+use Rattle.med_syntax.specs.QueryCauses.{statement_in_range}
 use Rattle.med_syntax.specs.declared.write.Given.TheVariants as g
 use Rattle.med_syntax.specs.WriteTree.{WriteTree, insert, update, delete}
 use Rattle.med_syntax.specs.WriteView.{given_tree}
 use Rattle.write_parser.specs.WriteCauses.{given_in_range}
-use Rattle.sql_print.specs.WritePrinting.{given_written, insert_written, update_written, delete_written, write_written, printed_write}
+use Rattle.sql_print.specs.WritePrinting.{insert_written, update_written, delete_written, write_written, printed_write}
 
 pub query_in_range : (q : Statement) → given_in_range (given_tree (g.Rows q)) ≡ statement_in_range (statement_tree q)
 query_in_range (s.Select q) = refl
-
-pub query_written : (q : Statement) → given_written (given_tree (g.Rows q)) ≡ statement_written (statement_tree q)
-query_written (s.Select q) = refl
 
 pub spaced : (w : WriteTree) (a b : List ℕ) → a ≡ [] → Wrote a b (write_written w) → b ≡ 32 ∷ printed_write w
 spaced (insert i) a b p w = w.is ∙ ap (λ y. y ++ behind_spaces (shapes_for (insert_written i))) p

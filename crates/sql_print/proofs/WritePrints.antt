@@ -10,12 +10,12 @@ use Rattle.med_syntax.specs.Terminal.{Terminal, IsTerminal, AreTerminals}
 use Rattle.med_syntax.specs.Terminal as t
 use Rattle.med_syntax.specs.ExprTree.{ExprTree, spelling, IsExpr}
 use Rattle.med_syntax.specs.QueryTree.{EntryTree, SelectTree, select}
-use Rattle.expr_grammar.specs.Shapes.{shapes}
-use Rattle.expr_grammar.specs.ExprGrammar.{in_range}
+use Rattle.med_syntax.specs.Shapes.{shapes}
+use Rattle.med_syntax.specs.ExprGrammar.{in_range}
 use Rattle.expr_writer.specs.ExprPrinting.{shape_for, shapes_for}
 use Rattle.expr_writer.proofs.ExprPrints.{Writable, AreWritable, both_left, both_right, writable, written_terminal, says, written_shape, PrintedAgain}
-use Rattle.query_grammar.specs.QueryGrammar.{SpellsOthers, SpellsList, SpellsAlias, SpellsEntry, SpellsExpr}
-use Rattle.query_grammar.specs.QueryCauses.{all_in_range, perhaps_in_range}
+use Rattle.med_syntax.specs.QueryGrammar.{SpellsOthers, SpellsList, SpellsAlias, SpellsEntry, SpellsExpr}
+use Rattle.med_syntax.specs.QueryCauses.{all_in_range, perhaps_in_range}
 use Rattle.sql_print.specs.QueryPrinting.{alias_written, entry_written, others_written, list_written, select_written}
 use Rattle.sql_print.proofs.QueryPrints as query
 use Rattle.med_syntax.specs.WriteTree.{GivenTree, values, rows_of, UpdateTree, DeleteTree, WriteTree, insert, update, delete}

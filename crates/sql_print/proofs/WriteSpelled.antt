@@ -4,7 +4,7 @@ use Rattle.std.specs.Prelude.{Option, Some, None}
 use Rattle.med_syntax.specs.Tree.{Name}
 use Rattle.med_syntax.specs.Terminal.{Terminal}
 use Rattle.med_syntax.specs.ExprTree.{ExprTree, spelling}
-use Rattle.query_grammar.specs.QueryGrammar.{SpellsExpr}
+use Rattle.med_syntax.specs.QueryGrammar.{SpellsExpr}
 use Rattle.sql_print.specs.QueryPrinting.{entry_written, list_written}
 use Rattle.sql_print.proofs.QuerySpelled.{Spelled, list_spelled, condition_spelled, entry_spelled}
 use Rattle.med_syntax.specs.WriteTree.{values, UpdateTree, DeleteTree}

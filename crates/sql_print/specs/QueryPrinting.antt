@@ -11,7 +11,7 @@ use Rattle.med_syntax.specs.Terminal as t
 use Rattle.med_syntax.specs.ExprTree.{ExprTree, column_spelling, spelling}
 use Rattle.expr_writer.specs.ExprPrinting.{shapes_for}
 use Rattle.med_syntax.specs.QueryTree.{ItemTree, all, all_of, value, EntryTree, JoinTree, inner_join, left_join, cross_join, ChainTree, GroupTree, KeyTree, LimitTree, no_limit, rows, CoreTree, SelectTree, StatementTree, select}
-use Rattle.query_grammar.specs.QueryGrammar.{keywords}
+use Rattle.med_syntax.specs.QueryGrammar.{keywords}
 
 abbrev pub keyword_word : Keyword → List ℕ
 keyword_word k.Select = codes "select"

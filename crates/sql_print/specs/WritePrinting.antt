@@ -8,7 +8,7 @@ use Rattle.med_syntax.specs.Terminal.{Terminal}
 use Rattle.med_syntax.specs.Terminal as t
 use Rattle.med_syntax.specs.ExprTree.{ExprTree, spelling}
 use Rattle.expr_writer.specs.ExprPrinting.{shapes_for}
-use Rattle.query_grammar.specs.QueryGrammar.{keywords}
+use Rattle.med_syntax.specs.QueryGrammar.{keywords}
 use Rattle.sql_print.specs.QueryPrinting.{entry_written, list_written, perhaps_written, select_written}
 use Rattle.med_syntax.specs.WriteTree.{GivenTree, values, rows_of, InsertTree, SetTree, UpdateTree, DeleteTree, WriteTree, insert, update, delete}
 

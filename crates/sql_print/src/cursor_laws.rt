@@ -1,7 +1,7 @@
 //! The law of printed statements on cursors: the contract of a function that does nothing.
 
-ghost use Rattle.cursor_parser.specs.CursorCauses.{cursor_in_range};
-ghost use Rattle.cursor_parser.specs.CursorGrammar.{HasCursor};
+ghost use Rattle.write_parser.specs.CursorCauses.{cursor_in_range};
+ghost use Rattle.write_parser.specs.CursorGrammar.{HasCursor};
 ghost use Rattle.sql_print.specs.CursorPrinting as printing;
 ghost use Rattle.med_syntax.specs.CursorTree.{CursorTree};
 ghost use Rattle.std.specs.Prelude.{◌≡◌, ℕ, true, List};

@@ -1,8 +1,8 @@
 //! Writes statements on cursors out, each token behind a space.
 #![tactic(auto, using(crate::proofs::CursorWriting::wrote_name, crate::proofs::CursorWriting::wrote_number))]
 
-ghost use Rattle.cursor_parser.specs.CursorCauses.{cursor_in_range};
-ghost use Rattle.cursor_parser.specs.CursorGrammar.{HasCursor};
+ghost use Rattle.write_parser.specs.CursorCauses.{cursor_in_range};
+ghost use Rattle.write_parser.specs.CursorGrammar.{HasCursor};
 ghost use Rattle.sql_print.specs.CursorPrinting.{count_written, cursor_written, query_written, printed_cursor};
 ghost use Rattle.med_syntax.specs.CursorTree.{fetch};
 ghost use Rattle.med_syntax.specs.CursorView.{count_tree, cursor_tree};

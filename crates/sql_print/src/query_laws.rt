@@ -2,8 +2,8 @@
 
 ghost use Rattle.std.specs.Prelude.{◌≡◌, ℕ, true, List};
 ghost use Rattle.med_syntax.specs.QueryTree.{StatementTree};
-ghost use Rattle.query_grammar.specs.QueryGrammar.{HasStatement};
-ghost use Rattle.query_grammar.specs.QueryCauses.{statement_in_range};
+ghost use Rattle.med_syntax.specs.QueryGrammar.{HasStatement};
+ghost use Rattle.med_syntax.specs.QueryCauses.{statement_in_range};
 ghost use Rattle.sql_print.specs.QueryPrinting as printing;
 
 use med_lexer::{printed_again, tokens_can_be_printed};

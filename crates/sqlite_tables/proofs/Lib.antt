@@ -9,3 +9,7 @@ pub mod Found
 pub mod Unique
 pub mod PageLemmas
 pub mod StoreTables
+pub mod Surveying
+pub mod Opened
+pub mod Columns
+pub mod Singles

@@ -1,5 +1,5 @@
 -- A page text gives the first rows of a key range, in key order, and changes nothing.
-use Rattle.std.proofs.Common.{rules, Option, nat_le, unwrap_or, slice_get, ◌^◌, ◌-◌, Vec, None, Ok, Err, Result, IfOk, IfErr, OnOk, ◌≡◌, ◌⊎◌, inl, inr, ℕ, ℤ, pos, negsuc, Bool, true, false, cond, not, ◌&&◌, List, [], ◌∷◌, ◌++◌, Some, map, filter, take, length, IsTrue, refl, sym, ap, subst, ◌∙◌, arith, Less}
+use Rattle.std.proofs.Common.{rules, Option, nat_le, unwrap_or, slice_get, ◌^◌, ◌-◌, Vec, None, Ok, Err, Result, IfOk, IfErr, OnOk, ◌≡◌, inl, inr, ℕ, ℤ, Bool, true, false, cond, ◌&&◌, List, [], ◌∷◌, ◌++◌, Some, map, filter, take, IsTrue, refl, sym, ap, subst, ◌∙◌, Less}
 use Rattle.std.specs.Prelude.{if◌then◌else◌, flat_map}
 use Rattle.std.specs.Ordering.{is_lt, is_ge, is_le, int_cmp}
 use Rattle.std.specs.List.{AllByRecursion, list_all}
@@ -26,20 +26,19 @@ use Rattle.sqlite_value.specs.declared.keys.Collation.TheVariants.{Binary}
 use Rattle.sqlite_value.proofs.OrderLemmas.{value_cmp-Int, value_cmp_total, then-Equal}
 use Rattle.sqlite_catalog.proofs.LayoutLemmas.{ascending_filter}
 use Rattle.std.proofs.lemmas.Simd.{map-map}
-use Rattle.sqlite.specs.Query.{Query, IsAnswer, Output, output, page}
+use Rattle.sqlite.specs.Query.{IsAnswer, Output, output, page}
 use Rattle.sqlite.specs.Program.{overlay}
 use Rattle.sqlite.specs.Command.{Command}
 use Rattle.sqlite.specs.Command.TheVariants.{Select, Rows}
 use Rattle.sqlite.specs.Clock.{timed}
 use Rattle.sqlite.specs.Effect.{Database, RefusesToRead}
-use Rattle.sqlite.specs.State.{State, Shown, ShowsRows, IsUnchanged, IsRolledBack, Fails, IsNotRun, IsNoStatement, FailsToShow, FailsToQuery, store_error}
+use Rattle.sqlite.specs.State.{State, Shown, ShowsRows, IsUnchanged, IsRolledBack, IsNotRun, IsNoStatement, FailsToShow, FailsToQuery, store_error}
 use Rattle.sqlite_schema.specs.declared.command.Returning.{Returning}
-use Rattle.sqlite_schema.specs.declared.program.Program.{Program}
 use Rattle.sqlite_resolve.specs.declared.compiled.Compiled.{Compiled}
 use Rattle.sqlite_resolve.specs.declared.error.CompileError.{CompileError}
-use Rattle.sqlite.specs.Listing.{understood, reads_listing, IsSourceOf}
+use Rattle.sqlite.specs.Listing.{understood}
 use Rattle.sqlite.proofs.Callers.{reads_as, IsPlain}
-use Rattle.sqlite_tables.specs.StoreShapes.{IsPageText, page_filter, page_query, command_of, in_range, paged, range_of}
+use Rattle.sqlite_tables.specs.StoreShapes.{IsPageText, page_filter, page_query, in_range, paged, range_of}
 use Rattle.sqlite_tables.proofs.Unique.{only_sorted}
 
 truth_back : (b : Bool) → is_true (from_truth (Some b)) ≡ b

@@ -1,5 +1,5 @@
 -- A table of a store that does is in the order of its keys.
-use Rattle.std.proofs.Common.{◌≡◌, ℕ, Bool, List, Some, slice_get, refl, true, false, sym, subst, ap, IsTrue, ◌⊎◌, inl, inr, ◌∙◌}
+use Rattle.std.proofs.Common.{◌≡◌, ℕ, Bool, List, refl, true, false, sym, subst, ap, IsTrue, ◌∙◌}
 use Rattle.sqlite_trees.specs.declared.store.Store.{Ghosts}
 use Rattle.sqlite_trees.specs.View.{View, IsClean, IsOrdered, doubt}
 use Rattle.sqlite_trees.specs.Objects.{catalog_tree, IsListed}

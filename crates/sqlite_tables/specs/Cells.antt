@@ -54,11 +54,11 @@ abbrev pub id_of : ℤ → ℕ
 id_of key = cast_unsigned w64 key
 
 -- the cells of a row as a page shows it: its key and its two other cells
-abbrev pub cells_of : Layout → SqlRow → Tuple
-cells_of l row = Whole (key_in row) ∷ cell_of l.second (column row 1) ∷ cell_of l.third (column row 2) ∷ []
+abbrev pub page_cells : Layout → SqlRow → Tuple
+page_cells l row = Whole (key_in row) ∷ cell_of l.second (column row 1) ∷ cell_of l.third (column row 2) ∷ []
 
 abbrev pub row_in : Layout → SqlRow → TableRow
-row_in l row = record { id = id_of (key_in row); cells = cells_of l row; origin = [] }
+row_in l row = record { id = id_of (key_in row); cells = page_cells l row; origin = [] }
 
 -- the keys of SQLite are 64 bit integers
 abbrev pub least : ℤ

@@ -8,3 +8,6 @@ pub mod Refusing
 pub mod StoreShapes
 pub mod Steady
 pub mod Memory
+pub mod Readings
+pub mod Surveys
+pub mod Lookups

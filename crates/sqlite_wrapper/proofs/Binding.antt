@@ -20,11 +20,11 @@ use Rattle.sqlite_tables.specs.Cells.{row_in, rows_in, least, greatest}
 use Rattle.sqlite_tables.specs.Tables.{tree_found, entry_of, rows_of, entries_at}
 use Rattle.sqlite_tables.proofs.Found.{found_is_read}
 use Rattle.sqlite_tables.specs.Refusing.{OnlyBy}
-use Rattle.sqlite_surveys.specs.Readings.{plain_rows, sqlite_reading}
-use Rattle.sqlite_surveys.specs.Surveys.{causes_of}
-use Rattle.sqlite_surveys.proofs.Opened.{same_types, least_told}
+use Rattle.sqlite_tables.specs.Readings.{plain_rows, sqlite_reading}
+use Rattle.sqlite_tables.specs.Surveys.{causes_of}
+use Rattle.sqlite_tables.proofs.Opened.{same_types, least_told}
 use Rattle.sqlite_wrapper.specs.declared.scans.KeyScan.{KeyScan}
-use Rattle.staged_changes.specs.declared.changes.StagedWrite.{StagedWrite}
+use Rattle.wrapper_parts.specs.declared.changes.StagedWrite.{StagedWrite}
 use Rattle.sqlite_wrapper.specs.Kinds.{sqlite_image}
 use Rattle.sqlite_wrapper.specs.Boxes.{bound_of, marked_bound, entry_at, sqlite_state}
 use Rattle.sqlite_wrapper.proofs.Bound.{marks}

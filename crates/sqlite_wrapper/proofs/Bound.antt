@@ -6,7 +6,7 @@ use Rattle.sqlite.specs.Effect.{Database}
 use Rattle.fdw_api.specs.State.{BoxTable, set_at}
 use Rattle.fdw_api.specs.Calls.{Unbinds}
 use Rattle.sqlite_wrapper.specs.declared.scans.KeyScan.{KeyScan}
-use Rattle.staged_changes.specs.declared.changes.StagedWrite.{StagedWrite}
+use Rattle.wrapper_parts.specs.declared.changes.StagedWrite.{StagedWrite}
 use Rattle.sqlite_wrapper.specs.Boxes.{marked_bound, sqlite_state}
 
 mark_same : (bs : List Bool) (i : ℕ) (b : Bool) → i < length bs → slice_index_or (slice_set bs i b) i false ≡ b

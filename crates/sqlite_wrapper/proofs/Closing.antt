@@ -14,8 +14,8 @@ use Rattle.fdw_api.specs.State.{BoxTable, BoxState, Staging, scan_of}
 use Rattle.fdw_api.specs.Writes.{CanClose, Closes, CloseCause, RefusesClose, Written}
 use Rattle.fdw_api.specs.declared.interface.Fault.{Fault}
 use Rattle.fdw_api.specs.declared.interface.Fault.TheVariants.{NoMemory, Source, Refused}
-use Rattle.staged_changes.specs.Staged.{change_is, write_is}
-use Rattle.staged_changes.specs.declared.changes.StagedWrite.{StagedWrite}
+use Rattle.wrapper_parts.specs.Staged.{change_is, write_is}
+use Rattle.wrapper_parts.specs.declared.changes.StagedWrite.{StagedWrite}
 use Rattle.sqlite_tables.specs.Cells.{rows_in}
 use Rattle.sqlite_tables.specs.Layouts.{Layout, kinds_in, layout_at, layout_count, place_of}
 use Rattle.sqlite_tables.specs.Fitting.{is_of_shape}
@@ -24,7 +24,7 @@ use Rattle.sqlite_tables.specs.Tables.{IsKnown, entries_at, entries_in, entries_
 use Rattle.sqlite_writes.specs.Kinds.{write_causes}
 use Rattle.sqlite_writes.specs.Writable.{AreApart}
 use Rattle.sqlite_wrapper.specs.Boxes.{allows, asked_of, bound_of, entry_at, given_of, held_in, marked_bound, rows_at, scan_is, scan_rows, sqlite_state, to_come}
-use Rattle.sqlite_surveys.specs.Lookups.{IsLookup}
+use Rattle.sqlite_tables.specs.Lookups.{IsLookup}
 use Rattle.sqlite_wrapper.specs.Looks.{AllLook}
 use Rattle.sqlite_wrapper.specs.Rewrites.{Rewrites}
 use Rattle.sqlite_wrapper.specs.declared.scans.KeyScan.{KeyScan}

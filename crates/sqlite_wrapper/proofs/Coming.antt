@@ -7,8 +7,8 @@ use Rattle.sqlite.specs.Order.{Row as SqlRow}
 use Rattle.sqlite.specs.View.{IsShaped}
 use Rattle.sqlite_trees.specs.declared.store.Shape.TheVariants as shape
 use Rattle.sqlite_tables.specs.StoreShapes.{in_range, key_of, range_of, paged}
-use Rattle.key_ranges.specs.declared.ranges.KeyRange.{KeyRange}
-use Rattle.key_ranges.specs.Ranges.{has_key}
+use Rattle.wrapper_parts.specs.declared.ranges.KeyRange.{KeyRange}
+use Rattle.wrapper_parts.specs.Ranges.{has_key}
 use Rattle.med_value.specs.Datum.{Tuple, Whole}
 use Rattle.fdw_api.specs.Scan.{Spec, RestrictionForm, TableRow, GivenRow, IsComing, first_of, meets, meets_all, meets_exact, given_row, row_cmp}
 use Rattle.fdw_api.specs.declared.scan.Agree.{Agree}

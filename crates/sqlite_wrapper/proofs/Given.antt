@@ -5,7 +5,7 @@ use Rattle.sqlite.specs.Order.{Row as SqlRow}
 use Rattle.med_value.specs.Datum.{Tuple}
 use Rattle.fdw_api.specs.Scan.{Spec, GivenRow, shown_cells, row_fits}
 use Rattle.sqlite_tables.specs.Layouts.{Layout, kinds_in, layout_at}
-use Rattle.sqlite_tables.specs.Cells.{key_in, id_of, cells_of, is_row}
+use Rattle.sqlite_tables.specs.Cells.{key_in, id_of, page_cells, is_row}
 use Rattle.sqlite_wrapper.specs.Boxes.{given_of}
 use Rattle.sqlite_wrapper.specs.Pages.{may_be_next}
 use Rattle.sqlite_wrapper.specs.declared.scans.KeyScan.{KeyScan}
@@ -18,7 +18,7 @@ at_drop (x ∷ xs) (suc at) r e =
     let n : suc at + 1 ≡ suc (at + 1) = omega arith in
     (omega (arith, w.0), rw n w.1)
 
-pub row_same : (spec : Spec) (l : Layout) (r : SqlRow) (k : ℤ) (n : ℕ) (cells seen : Tuple) → k ≡ key_in r → n ≡ id_of k → cells ≡ cells_of l r → seen ≡ shown_cells spec cells
+pub row_same : (spec : Spec) (l : Layout) (r : SqlRow) (k : ℤ) (n : ℕ) (cells seen : Tuple) → k ≡ key_in r → n ≡ id_of k → cells ≡ page_cells l r → seen ≡ shown_cells spec cells
     → ◌≡◌ {A = GivenRow} (record { id = n; cells = seen }) (given_of spec l r)
 row_same spec l r k n cells seen a b c d = rw (b, d, a, c) refl
 
@@ -46,7 +46,7 @@ under low key less = grind (arith, ints)
 
 -- a row's cells are of its table's types
 abbrev fits_in : KeyScan → SqlRow → Bool
-fits_in s r = row_fits (kinds_in (layout_at s.table)) (cells_of (layout_at s.table) r)
+fits_in s r = row_fits (kinds_in (layout_at s.table)) (page_cells (layout_at s.table) r)
 
 -- a scan whose range is shut, or whose range the row's key is below or above, may not give it
 pub shut : (s : KeyScan) (r : SqlRow) → s.«open» ≡ false → may_be_next s r ≡ false

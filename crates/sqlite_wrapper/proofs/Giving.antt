@@ -13,12 +13,11 @@ use Rattle.sqlite.specs.Schema.{Schema}
 use Rattle.sqlite_tables.specs.StoreShapes.{range_of, key_of}
 use Rattle.fdw_api.specs.Scan.{Spec, GivenRow, first_of, shown_fits}
 use Rattle.fdw_api.specs.State.{Scan, BoxState}
-use Rattle.fdw_api.specs.Calls.{LeavesOthers, Breaks, GivesRow, GivesNone, bumped, faults_after, not_refused}
+use Rattle.fdw_api.specs.Calls.{LeavesOthers, Breaks, GivesRow, GivesNone, bumped, faults_after, not_refused, row_of}
 use Rattle.fdw_api.specs.declared.interface.Fault.{Fault}
-use Rattle.fdw_api.specs.Calls.{row_of}
 use Rattle.med_value.specs.Datum.{tuple}
 use Rattle.sqlite_wrapper.specs.declared.scans.KeyScan.{KeyScan}
-use Rattle.staged_changes.specs.declared.changes.StagedWrite.{StagedWrite}
+use Rattle.wrapper_parts.specs.declared.changes.StagedWrite.{StagedWrite}
 use Rattle.sqlite_wrapper.specs.declared.scans.PageWanted.{PageWanted}
 use Rattle.sqlite_wrapper.specs.declared.rows.GivenNext.{GivenNext}
 use Rattle.sqlite_tables.specs.Layouts.{layout_at}

@@ -12,8 +12,8 @@ use Rattle.sqlite.specs.Order.{Row as SqlRow}
 use Rattle.sqlite.specs.View.{IsShaped}
 use Rattle.sqlite_trees.specs.declared.store.Shape.TheVariants as shape
 use Rattle.sqlite_tables.specs.StoreShapes.{range_of}
-use Rattle.key_ranges.specs.declared.ranges.KeyRange.{KeyRange}
-use Rattle.key_ranges.specs.Ranges.{is_key_value, is_apart, is_range_check, is_key_test, is_typed_check, asks_key, only_key_tests, only_keys}
+use Rattle.wrapper_parts.specs.declared.ranges.KeyRange.{KeyRange}
+use Rattle.wrapper_parts.specs.Ranges.{is_key_value, is_apart, is_range_check, is_key_test, is_typed_check, asks_key, only_key_tests, only_keys}
 use Rattle.med_value.specs.Datum.{Datum, NoValue, Whole, Chars, Logic, Tuple, cell}
 use Rattle.med_value.specs.declared.value.ColType.{ColType}
 use Rattle.med_value.specs.declared.value.ColType.TheVariants.{Int}
@@ -28,7 +28,7 @@ use Rattle.fdw_api.specs.declared.interface.Fault.TheVariants.{NoMemory}
 use Rattle.fdw_api.specs.State.{BoxTable, Scan, BoxState, scan_of, table_of}
 use Rattle.fdw_api.specs.Calls.{LeavesOthers, new_scan, Begins, Breaks, CanRescan, Rescans, Ends, RefusesBegin, faults_after, not_refused, Allows}
 use Rattle.sqlite_wrapper.specs.declared.scans.KeyScan.{KeyScan}
-use Rattle.staged_changes.specs.declared.changes.StagedWrite.{StagedWrite}
+use Rattle.wrapper_parts.specs.declared.changes.StagedWrite.{StagedWrite}
 use Rattle.sqlite_tables.specs.Layouts.{layout_at, layout_count, kinds_in}
 use Rattle.sqlite_tables.specs.Cells.{least, greatest}
 use Rattle.sqlite_wrapper.specs.Boxes.{allows, asked_of, is_allowed, is_by_key, bound_of, marked_bound, lowest, from_to, scan_is, given_of, scan_rows, to_come, mapped, Sets, promised, sqlite_state, IsNewScan, IsBegun}
@@ -186,9 +186,6 @@ module _ (honest : Bool) (bound : List Bool) (staged : Option StagedWrite) where
 
   pub open_there : (db : Database) (m : BTreeMap ℕ KeyScan) (next pulled faults n : ℕ) (scan : Scan) → scan_of (box db m next pulled faults) n ≡ Some scan → IsSome (tree.get nat_cmp m n)
   open_there db m next pulled faults n scan e = there scan_is _ _ (sym (mapped_get scan_is m n) ∙ e)
-
-  pub live_there : (db : Database) (m : BTreeMap ℕ KeyScan) (next pulled faults n : ℕ) → IsSome (scan_of (box db m next pulled faults) n) → IsSome (tree.get nat_cmp m n)
-  live_there db m next pulled faults n e = let w = at_some _ e in open_there db m next pulled faults n w.0 w.1
 
   pub sqlite_allows : (db : Database) (m : BTreeMap ℕ KeyScan) (next pulled faults t : ℕ) (spec : Spec) → IsSome (table_of (box db m next pulled faults) t) → allows spec ≡ true → Allows (box db m next pulled faults) t spec
   sqlite_allows db m next pulled faults t spec e a =

@@ -12,14 +12,14 @@ use Rattle.sqlite_trees.specs.declared.store.Shape.TheVariants as shape
 use Rattle.med_value.specs.Datum.{Datum, Tuple, Whole, datum, cell}
 use Rattle.fdw_api.specs.Scan.{Spec, KeyForm, TableRow, IsComing, first_of, given_row, meets_exact}
 use Rattle.fdw_api.specs.Wishes.{is_unpromised, key_form}
-use Rattle.place_index.specs.Scans.{SoughtForm, sought, has_sought, rows_taken}
-use Rattle.place_index.proofs.Taking.{taken_comes}
+use Rattle.wrapper_parts.specs.Scans.{SoughtForm, sought, has_sought, rows_taken}
+use Rattle.wrapper_parts.proofs.Taking.{taken_comes}
 use Rattle.sqlite_tables.specs.Layouts.{Layout, layout_at}
 use Rattle.sqlite_tables.specs.Cells.{row_in, rows_in, least, greatest}
 use Rattle.sqlite_tables.specs.Tables.{entries_of, rows_of}
 use Rattle.sqlite_tables.proofs.PagesJoin.{between}
-use Rattle.sqlite_surveys.specs.declared.reading.Lookup.{Lookup}
-use Rattle.sqlite_surveys.specs.Lookups.{IsLookup, has_value, rows_with}
+use Rattle.sqlite_tables.specs.declared.reading.Lookup.{Lookup}
+use Rattle.sqlite_tables.specs.Lookups.{IsLookup, has_value, rows_with}
 use Rattle.sqlite_wrapper.specs.declared.scans.KeyScan.{KeyScan}
 use Rattle.sqlite_wrapper.specs.Boxes.{Sets, IsBegun, allows, asked_of, is_by_key, lowest, scan_is, scan_rows, given_of}
 use Rattle.fdw_api.specs.State.{Scan}

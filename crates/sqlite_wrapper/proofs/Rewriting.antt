@@ -1,5 +1,5 @@
 -- A write as a rewrite of a table's entries.
-use Rattle.std.proofs.Common.{◌≡◌, ◌≢◌, ◌∙◌, ℕ, ◌+◌, ◌-◌, ◌<◌, ◌≤◌, ℤ, Bool, true, false, List, [], None, map, length, nat_eq, nat_lt, Contains, Result, Ok, Err, OnOk, refl, sym, ap, subst, arith}
+use Rattle.std.proofs.Common.{◌≡◌, ◌≢◌, ◌∙◌, ℕ, ◌+◌, ◌-◌, ◌<◌, ◌≤◌, ℤ, Bool, true, false, List, [], None, map, length, nat_eq, nat_lt, Contains, refl, sym, ap, subst, arith}
 use Rattle.std.specs.List.{IsDistinct, list_any}
 use Rattle.std.proofs.lemmas.List.{length-map}
 use Rattle.std.proofs.lemmas.List.Sorted.{length_permutation}
@@ -98,10 +98,6 @@ module _ (old : Database) (t : ℕ) (changes : List Change) where
       grind (arith, all, count_is, fresh_is, gone_is, left_is, law)
 
 -- ---- by what a call came to
-
-pub all_done : {P Q O R : Type 0} {T : Type 0} (r : Result T Fault) → OnOk r P → OnOk r Q → OnOk r O → (P → Q → O → R) → OnOk r R
-all_done (Ok x) p q o f = f p q o
-all_done (Err e) p q o f = tt
 
 pub by_keyless : (rows : List TableRow) (changes : List Change) (fault : Fault) (more : Cause → Type 0) → (list_any lacks_key changes ≡ true → more NotNull)
     → IsKeyless changes fault → OnlyBy more fault

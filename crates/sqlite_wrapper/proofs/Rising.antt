@@ -16,7 +16,7 @@ use Rattle.med_value.specs.Datum.{cell}
 use Rattle.med_value.specs.Order.{key_cmp}
 use Rattle.fdw_api.specs.Scan.{KeyForm, TableRow, first_of, row_cmp}
 use Rattle.sqlite_tables.specs.Layouts.{Layout}
-use Rattle.sqlite_tables.specs.Cells.{row_in, cells_of}
+use Rattle.sqlite_tables.specs.Cells.{row_in, page_cells}
 use Rattle.sqlite_tables.proofs.PagesJoin.{Ints, lower}
 use Rattle.sqlite_wrapper.specs.Boxes.{is_by_key}
 use Rattle.sqlite_wrapper.specs.Pages.{is_spent}
@@ -79,10 +79,10 @@ behind : (l : Layout) (order : List KeyForm) → is_by_key order ≡ true → (a
 behind l [] by a b less = refl
 behind l (k ∷ []) by a b less =
     let w = both (nat_eq k.column 0) (not k.descending) by in
-    or_equal (key_cmp k.descending k.nulls_first (cell (cells_of l (paged b)) k.column) (cell (cells_of l (paged a)) k.column))
+    or_equal (key_cmp k.descending k.nulls_first (cell (page_cells l (paged b)) k.column) (cell (page_cells l (paged a)) k.column))
     (at k.column k.descending (is_first k.column w.0) (is_ascending k.descending w.1))
   where
-    at : (n : ℕ) (d : Bool) → n ≡ 0 → d ≡ false → is_lt (key_cmp d k.nulls_first (cell (cells_of l (paged b)) n) (cell (cells_of l (paged a)) n)) ≡ false
+    at : (n : ℕ) (d : Bool) → n ≡ 0 → d ≡ false → is_lt (key_cmp d k.nulls_first (cell (page_cells l (paged b)) n) (cell (page_cells l (paged a)) n)) ≡ false
     at n d en ed = rw (en, ed) (greater_than (key_of a) (key_of b) less)
 behind l (k ∷ j ∷ ks) by a b less = absurd cc
 

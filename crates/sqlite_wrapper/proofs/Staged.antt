@@ -10,9 +10,9 @@ use Rattle.fdw_api.specs.Kinds.{Change}
 use Rattle.fdw_api.specs.State.{Staging}
 use Rattle.fdw_api.specs.Writes.{CanChange, row_of_change_fits, is_first, id_is_there}
 use Rattle.sqlite_wrapper.specs.declared.scans.KeyScan.{KeyScan}
-use Rattle.staged_changes.specs.declared.changes.StagedWrite.{StagedWrite}
+use Rattle.wrapper_parts.specs.declared.changes.StagedWrite.{StagedWrite}
 use Rattle.sqlite_tables.specs.Layouts.{layout_count, kinds_in, layout_at}
-use Rattle.staged_changes.specs.Staged.{change_is, write_is, with_change, broken_write}
+use Rattle.wrapper_parts.specs.Staged.{change_is, write_is, with_change, broken_write}
 use Rattle.sqlite_writes.specs.Splitting.{IsNamedOnce}
 use Rattle.sqlite_tables.specs.Tables.{rows_of}
 use Rattle.sqlite_wrapper.specs.Changes.{write_fits, NamesOnce, names_rows}

@@ -10,8 +10,8 @@ use Rattle.sqlite.specs.Effect.{Database}
 use Rattle.sqlite.specs.Order.{Row as SqlRow}
 use Rattle.sqlite_tables.specs.StoreShapes.{range_of}
 use Rattle.sqlite_tables.specs.Tables.{entries_of, rows_of, entry_of, behind}
-use Rattle.key_ranges.specs.Ranges.{has_key, only_key_tests, plain_is_allowed}
-use Rattle.key_ranges.specs.declared.ranges.KeyRange.{KeyRange}
+use Rattle.wrapper_parts.specs.Ranges.{has_key, only_key_tests, plain_is_allowed}
+use Rattle.wrapper_parts.specs.declared.ranges.KeyRange.{KeyRange}
 use Rattle.med_value.specs.Datum.{Whole, Tuple, datum}
 use Rattle.fdw_api.specs.Scan.{KeyForm, Spec, first_of, spec_of, TableRow, GivenRow, given_row, meets_exact}
 use Rattle.fdw_api.specs.Kinds.{Entry, Holding, Known}
@@ -19,12 +19,12 @@ use Rattle.fdw_api.specs.State.{BoxTable, Scan, Ledger, Content, BoxState, whole
 use Rattle.fdw_api.specs.Wishes.{key_form}
 use Rattle.fdw_api.specs.declared.wishes.OrderKey.{OrderKey}
 use Rattle.sqlite_wrapper.specs.declared.scans.KeyScan.{KeyScan}
-use Rattle.staged_changes.specs.declared.changes.StagedWrite.{StagedWrite}
+use Rattle.wrapper_parts.specs.declared.changes.StagedWrite.{StagedWrite}
 use Rattle.sqlite_tables.specs.Layouts.{Layout, kinds_in, layout_at, layout_count, place_of}
 use Rattle.sqlite_writes.specs.Kinds.{no_line, by_key, sqlite_refusals}
 use Rattle.sqlite_wrapper.specs.Kinds.{sqlite_image, sqlite_kind}
 use Rattle.sqlite_tables.specs.Cells.{row_in}
-use Rattle.staged_changes.specs.Staged.{write_is}
+use Rattle.wrapper_parts.specs.Staged.{write_is}
 
 abbrev pub entry_at : Database → Option ℕ → Option Entry
 entry_at db None = None

@@ -4,7 +4,7 @@ use Rattle.med_value.specs.declared.value.ColType.{ColType}
 use Rattle.med_value.specs.declared.cause.Cause.{Cause}
 use Rattle.med_value.specs.declared.cause.Cause.TheVariants.{InvalidOptionName}
 use Rattle.fdw_api.specs.Kinds.{Kind, OptionForm, Entry, Stored, Held, kinds_of}
-use Rattle.sqlite_surveys.specs.Readings.{sqlite_reading, sqlite_fits}
+use Rattle.sqlite_tables.specs.Readings.{sqlite_reading, sqlite_fits}
 use Rattle.sqlite_writes.specs.Kinds.{no_line, by_key, sqlite_refusals}
 
 -- the only option of a sqlite table is `table`, its remote name: each further one is HV00D

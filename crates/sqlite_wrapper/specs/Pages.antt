@@ -5,7 +5,7 @@ use Rattle.med_value.specs.Datum.{tuple}
 use Rattle.fdw_api.specs.Scan.{spec_of, shown_fits, row_fits}
 use Rattle.fdw_api.specs.Calls.{row_of}
 use Rattle.sqlite_tables.specs.Layouts.{kinds_in, layout_at}
-use Rattle.sqlite_tables.specs.Cells.{key_in, cells_of, is_row}
+use Rattle.sqlite_tables.specs.Cells.{key_in, page_cells, is_row}
 use Rattle.sqlite_wrapper.specs.Boxes.{scan_is, unread, to_come, given_of}
 use Rattle.sqlite_wrapper.specs.declared.rows.GivenNext.{GivenNext}
 use Rattle.sqlite_wrapper.specs.declared.scans.KeyScan.{KeyScan}
@@ -40,7 +40,7 @@ pub record Turns (honest : Bool) (entries : List SqlRow) (old new : KeyScan) : T
 -- whether a row of a page is one of its table's types, of a key that may come
 abbrev pub may_be_next : KeyScan → SqlRow → Bool
 may_be_next s r =
-    is_row r && row_fits (kinds_in (layout_at s.table)) (cells_of (layout_at s.table) r)
+    is_row r && row_fits (kinds_in (layout_at s.table)) (page_cells (layout_at s.table) r)
     && s.«open» && int_le s.low (key_in r) && int_le (key_in r) s.high
 
 -- the next row of the page, of a key that may come, as the scan gives it; none where no row may come any more, or the page has none

@@ -1,6 +1,5 @@
 //! The numbers of rows that are held for the tables of a database, so that a write does not count them again.
-ghost use Rattle.std.specs.Prelude.{◌≡◌, ◌≤◌, IfSome, slice_set};
-ghost use Rattle.med_value.specs.Limits.{row_limit};
+ghost use Rattle.std.specs.Prelude.{◌≡◌, IfSome, slice_set};
 ghost use Rattle.sqlite_wrapper.specs.Counts.{Forgets, held_for};
 
 use fdw_api::interface::Fault;

@@ -6,22 +6,21 @@ ghost use Rattle.sqlite.specs.Held.{state};
 ghost use Rattle.sqlite.specs.View.{IsShaped};
 ghost use Rattle.sqlite_trees.specs.declared.store.Shape.TheVariants as shape;
 ghost use Rattle.fdw_api.specs.Calls.{not_refused};
-ghost use Rattle.place_index.specs.Scans.{form_of};
+ghost use Rattle.wrapper_parts.specs.Scans.{form_of};
 ghost use Rattle.sqlite_tables.specs.Layouts.{layout_at};
 ghost use Rattle.sqlite_tables.specs.Tables.{IsKnown, IsSure, ReadsOnly, entries_in};
-ghost use Rattle.sqlite_surveys.specs.Lookups.{IsLookup};
+ghost use Rattle.sqlite_tables.specs.Lookups.{IsLookup};
 ghost use Rattle.sqlite_wrapper.specs.Boxes.{scan_is};
 ghost use Rattle.sqlite_wrapper.specs.Looks.{IsFree, LooksFor, IsAnswered};
 
 use crate::scans::KeyScan;
 use fdw_api::interface::Fault;
 use med_value::Value;
-use place_index::{Sought, sought_in, value_at};
 use sqlite::{Connection, Row};
-use sqlite_surveys::{Lookup, read_lookup, rows_with};
-use sqlite_tables::SourceStore;
+use sqlite_tables::{Lookup, SourceStore, read_lookup, rows_with};
 use std::alloc::Global;
 use std::collections::BTreeMap;
+use wrapper_parts::{Sought, sought_in, value_at};
 
 /// Takes the lookup of a live scan away from it.
 pub(crate) fn take_lookup(scans: &mut BTreeMap<u64, KeyScan>, number: u64) -> Option<Lookup>

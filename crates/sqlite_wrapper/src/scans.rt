@@ -4,18 +4,18 @@ ghost use Rattle.std.specs.Ordering.{nat_cmp};
 ghost use Rattle.std.specs.BTreeMap as tree;
 ghost use Rattle.med_value.specs.Datum.{datum};
 ghost use Rattle.fdw_api.specs.Scan.{spec_of};
-ghost use Rattle.key_ranges.specs.Ranges.{only_keys};
+ghost use Rattle.wrapper_parts.specs.Ranges.{only_keys};
 ghost use Rattle.sqlite_wrapper.specs.Boxes.{IsBegun, asked_of, promised};
 ghost use Rattle.sqlite_wrapper.specs.Pages.{is_spent, wanted_by, passed};
 
 use fdw_api::scan::{ScanSpec, copy_values};
 use fdw_api::wishes::OrderKey;
-use key_ranges::{KeyRange, range_of};
 use med_value::{NoMemory, Value};
 use sqlite::Row;
-use sqlite_surveys::Lookup;
+use sqlite_tables::Lookup;
 use std::alloc::Global;
 use std::collections::BTreeMap;
+use wrapper_parts::{KeyRange, range_of};
 
 /// A live scan: what it was asked for, the keys that may come yet, and the last page with the place from which it goes on.
 #[derive(Drop)]

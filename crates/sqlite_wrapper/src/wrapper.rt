@@ -5,10 +5,10 @@ ghost use Rattle.std.specs.BTreeMap as tree;
 ghost use Rattle.sqlite.specs.Held.{state};
 ghost use Rattle.med_value.specs.Datum.{datum};
 ghost use Rattle.fdw_api.specs.Scan.{params_fit, restriction_form, spec_of};
-ghost use Rattle.key_ranges.specs.Ranges.{answer_of};
+ghost use Rattle.wrapper_parts.specs.Ranges.{answer_of};
 ghost use Rattle.sqlite_wrapper.specs.declared.scans.KeyScan.{KeyScan};
 ghost use Rattle.sqlite_tables.specs.Layouts.{kinds_in, layout_at, layout_count};
-ghost use Rattle.staged_changes.specs.Staged.{write_is};
+ghost use Rattle.wrapper_parts.specs.Staged.{write_is};
 ghost use Rattle.sqlite_wrapper.specs.Changes.{NamesOnce, named_is_prop, names_rows, write_fits};
 ghost use Rattle.sqlite_writes.specs.Writable.{AreApart, IsWritable};
 ghost use Rattle.sqlite_wrapper.specs.Counts.{AreCounts, AreFew};
@@ -24,16 +24,14 @@ use crate::writing::write_rows;
 use fdw_api::interface::{Counts, Fault, RowId, SourceRow, TableOption, Ticket, Wrapper};
 use fdw_api::scan::{Agreement, Restriction, ScanSpec, copy_values};
 use fdw_api::wishes::{Agreement2, OrderKey, ScanSpec2, Wish, Wrapper2};
-use key_ranges::answers_for;
 use med_value::{Cause, ColumnDef, NoMemory, Row, TableNo, Value};
 use sqlite::Connection;
-use sqlite_surveys::open_table;
-use sqlite_tables::{SourceStore, layout_count, place_of};
+use sqlite_tables::{SourceStore, layout_count, open_table, place_of};
 use sqlite_writes::entries_rise;
 use sqlite_writes::law::first_changes_name_once;
-use staged_changes::{RowChange, StagedWrite, add_change};
 use std::alloc::Global;
 use std::collections::BTreeMap;
+use wrapper_parts::{RowChange, StagedWrite, add_change, answers_for};
 
 /// A SQLite database as a source of foreign tables.
 ///
@@ -153,7 +151,7 @@ impl<S: SourceStore + Drop> SqliteWrapper<S> {
 
 impl<S: SourceStore + Drop> Wrapper for SqliteWrapper<S> {
     ghost use Rattle.fdw_api.specs.Scan.{spec_by};
-    ghost use Rattle.fdw_api.specs.State.{BoxState, table_of};
+    ghost use Rattle.fdw_api.specs.State.{table_of};
     ghost use Rattle.fdw_api.specs.Calls.{CanBind, Binds, RefusesBind, Allows, CanBegin, Begins, RefusesBegin, IsOpen, Iterates, Breaks};
     ghost use Rattle.fdw_api.specs.Calls.{CanRescan, Rescans};
     ghost use Rattle.fdw_api.specs.Kinds.{column_of, option_form};

@@ -13,8 +13,7 @@ ghost use Rattle.sqlite_tables.specs.Tables.{IsKnown, IsSure, ReadsOnly, rows_of
 ghost use Rattle.sqlite_writes.specs.Kinds.{write_causes};
 ghost use Rattle.sqlite_writes.specs.Splitting.{IsNamedOnce};
 ghost use Rattle.sqlite_writes.specs.Writable.{IsWritable, IsSureWrite};
-ghost use Rattle.staged_changes.specs.Staged.{change_is};
-ghost use Rattle.sqlite_tables.specs.Steady.{IsCleanAfter};
+ghost use Rattle.wrapper_parts.specs.Staged.{change_is};
 ghost use Rattle.sqlite_wrapper.specs.Clean.{IsSureChange};
 ghost use Rattle.sqlite_wrapper.specs.Rewrites.{Rewrites};
 
@@ -23,12 +22,11 @@ use fdw_api::interface::Fault;
 use med_value::Cause;
 use med_value::limits::ROW_LIMIT;
 use sqlite::Connection;
-use sqlite_surveys::count_rows;
-use sqlite_tables::{SourceStore, find_table};
+use sqlite_tables::{SourceStore, count_rows, find_table};
 use sqlite_writes::law::changes_are_a_rewrite;
 use sqlite_writes::{Split, entries_rise, rewrite, split_changes};
-use staged_changes::RowChange;
 use std::alloc::Global;
+use wrapper_parts::RowChange;
 
 // The number of rows of a table that is there, of its shape: what is held for it, and where nothing is they are counted. Any refusal is a
 // failure of the source, but for want of memory.

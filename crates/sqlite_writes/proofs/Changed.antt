@@ -172,9 +172,6 @@ step_then {a} {b} {c} {t} steps h = record {
   ordered = steps.ordered;
 }
 
-pub steps_none : (s : State) (t : ℕ) → IsSureStep s s t → StepsTo s s t
-steps_none s t h = record { inside = h.inside; schema = refl; ordered = h.ordered; others = λ other known apart. refl }
-
 pub steps_then : {a b c : State} {t : ℕ} → StepsTo a b t → StepsTo b c t → StepsTo a c t
 steps_then {a} {b} {c} {t} one two = record {
   inside = two.inside;

@@ -4,7 +4,6 @@ pub mod Deleting
 pub mod Inserting
 pub mod Changed
 pub mod Loops
-pub mod Shown
 pub mod Sorting
 pub mod Repeats
 pub mod Edits
@@ -13,3 +12,5 @@ pub mod ChangesShown
 pub mod Rewritten
 pub mod Named
 pub mod Splits
+pub mod Making
+pub mod Standing

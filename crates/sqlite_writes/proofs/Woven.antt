@@ -30,9 +30,6 @@ unnamed changes rows = filter (λ r. not (named changes r.id)) rows
 pub turned : (m n : ℕ) → nat_eq m n ≡ nat_eq n m
 turned m n = both_ways _ _ (λ e. eq-eqb n m (sym (eqb-true m n e))) (λ e. eq-eqb m n (sym (eqb-true n m e)))
 
-itself : (n : ℕ) → nat_eq n n ≡ true
-itself n = eq-eqb n n refl
-
 -- ---- one row by its id
 
 others : (j : ℕ) (i : ℕ) (rows : List TableRow) → nat_eq i j ≡ true → AllByRecursion (λ k. nat_eq i k ≡ false) (map (λ r. r.id) rows) → filter (λ r. not (nat_eq r.id j)) rows ≡ rows

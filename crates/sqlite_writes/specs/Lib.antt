@@ -4,3 +4,5 @@ pub mod Changes
 pub mod Rewriting
 pub mod Kinds
 pub mod Splitting
+pub mod Found
+pub mod Made

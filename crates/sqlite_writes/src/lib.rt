@@ -1,15 +1,19 @@
-//! Writes to the tables of SQLite databases: a row taken out, a row put in, and many of them as one transaction.
-//!
-//! The changes of a write to a table of a SQLite database, as keys of rows that go and rows that come.
+//! Writes to the tables of SQLite databases: a row taken out, a row put in, and many of them as one transaction; the changes of a write as keys
+//! of rows that go and rows that come; and databases that are opened as sources.
 #![tactic(auto)]
 
+pub mod files;
 pub mod law;
+pub mod made;
 pub mod rewriting;
 pub mod rows;
 pub mod split;
 mod statements;
+pub mod system;
 mod texts;
 
+pub use files::{Databases, open_database};
+pub use made::memory_database;
 pub use rewriting::{entries_rise, rewrite};
 pub use rows::{delete_row, insert_row};
 pub use split::{Split, split_changes};

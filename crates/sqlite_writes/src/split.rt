@@ -6,7 +6,7 @@ ghost use Rattle.med_value.specs.Order.{is_missing};
 ghost use Rattle.med_value.specs.declared.cause.Cause.TheVariants.{NotNull};
 ghost use Rattle.fdw_api.specs.Scan.{row_fits};
 ghost use Rattle.fdw_api.specs.Writes.{row_of_change_fits};
-ghost use Rattle.staged_changes.specs.Staged.{change_is};
+ghost use Rattle.wrapper_parts.specs.Staged.{change_is};
 ghost use Rattle.sqlite_tables.specs.Layouts.{kinds_in, layout_at};
 ghost use Rattle.sqlite_writes.specs.Rewriting.{has_place};
 ghost use Rattle.sqlite_writes.specs.Kinds.{lacks_key};
@@ -14,8 +14,8 @@ ghost use Rattle.sqlite_writes.specs.Splitting.{keys_gone, rows_come, is_holdabl
 
 use fdw_api::interface::Fault;
 use med_value::{Cause, Row, Value};
-use staged_changes::RowChange;
 use std::alloc::Global;
+use wrapper_parts::RowChange;
 
 /// The changes of a write: the keys of the rows that go, and the rows that come, each in the changes' order.
 #[derive(Drop)]

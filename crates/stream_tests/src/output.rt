@@ -1,7 +1,7 @@
 //! What reads of a source and writes to a sink in memory meet: interruptions, faults, short writes and the end.
 use crate::expect::{same, same_text};
-use fed_output::memory::Answer;
-use fed_output::{Arrival, GivenUp, MemorySink, MemorySource, flush, read_piece, write_front};
+use fed_stream::memory::Answer;
+use fed_stream::{Arrival, GivenUp, MemorySink, MemorySource, flush, read_piece, write_front};
 use std::test::Fail;
 
 // Two bytes, two interruptions, a byte and a fault, and then a byte more.

@@ -7,8 +7,8 @@ use Rattle.med_value.specs.Datum.{Chars, Tuple}
 use Rattle.med_value.specs.declared.value.ColType.{ColType}
 use Rattle.fdw_api.specs.Scan.{RestrictionForm, Spec, params_fit}
 use Rattle.fdw_api.specs.Kinds.{Column, OptionForm, kinds_of}
-use Rattle.fdw_api.specs.State.{BoxState, Scan, IsIdle, table_of, scan_of, set_at}
-use Rattle.fdw_api.specs.Calls.{CanBind, Binds, Begins, IsOpen, Iterates, Breaks, CanRescan, Rescans}
+use Rattle.fdw_api.specs.State.{BoxState, Scan, table_of, scan_of, set_at}
+use Rattle.fdw_api.specs.Calls.{Binds, Begins, Iterates, Breaks, CanRescan, Rescans}
 use Rattle.fdw_api.specs.declared.interface.Fault.{Fault}
 use Rattle.fdw_api.specs.declared.interface.SourceRow.{SourceRow}
 use Rattle.tab_tests.specs.Tabs.{texts}
@@ -20,22 +20,11 @@ put_same m k v = grind (gets, rules)
 pub some_inj : {A : Type 0} (a b : A) → Some a ≡ Some b → a ≡ b
 some_inj a b q = cc
 
-not_none : {X : Type 0} (o : Option X) (x : X) → o ≡ None → o ≡ Some x → ⊥
-not_none o x e f = absurd cc
-
 set_same : {X : Type 0} (f : ℕ → X) (k : ℕ) (x : X) → set_at f k x k ≡ x
 set_same f k x = search rules
 
 some_is : {X : Type 0} (o : Option X) (x : X) → o ≡ Some x → IsSome o
 some_is o x e = subst IsSome (sym e) refl
-
--- on an idle wrapper every remote name is free
-pub idle_can_bind : (s : BoxState) (remote : List ℕ) (columns : List Column) (settings : List OptionForm) → IsIdle s
-    → s.nature.kind.objections columns settings ≡ [] → CanBind s remote columns settings
-idle_can_bind s remote columns settings idle no_objection = record {
-  free = λ t b is. absurd (not_none (table_of s t) b (idle.no_table t) is);
-  no_objection = no_objection;
-}
 
 -- what is bound is a table of its columns
 pub bound_is_table : (old new : BoxState) (remote : List ℕ) (columns : List Column) (settings : List OptionForm) (t : ℕ)
@@ -96,10 +85,6 @@ again_goes_on old new n params r c =
       is = ap (λ z. z.tables r.scan.table) r.ledger ∙ ap (λ (z : Scan). table_of old z.table) same ∙ c.is;
       typed = c.typed;
     }
-
--- what a scan that goes on allows
-pub going_is_open : (s : BoxState) (n : ℕ) → IsGoing s n → IsOpen s n
-going_is_open s n g = (g.scan, g.at, g.whole)
 
 pub going_is_live : (s : BoxState) (n : ℕ) → IsGoing s n → IsSome (scan_of s n)
 going_is_live s n g = some_is _ _ g.at

@@ -1,2 +1,4 @@
+pub mod KeptLaws
+pub mod DriveLaws
 mod Calls
 pub mod TabReads

@@ -16,8 +16,8 @@ use Rattle.fdw_api.specs.Writes.{rows_after}
 use Rattle.fdw_api.specs.declared.interface.Fault.TheVariants.{Refused}
 use Rattle.place_wrapper.specs.Forms.{ReadsAs, RefusesContent, Rewrites, RefusesChanges}
 use Rattle.place_wrapper.proofs.Causes.{only_cause}
-use Rattle.kept_rows.specs.Kept.{no_line, as_held}
-use Rattle.kept_rows.proofs.KeptLaws.{held_numbered, cells_back}
+use Rattle.tab_tests.specs.Kept.{no_line, as_held}
+use Rattle.tab_tests.proofs.KeptLaws.{held_numbered, cells_back}
 use Rattle.tab_tests.specs.Tabs.{is_mark, is_plain, is_row, texts, is_table, rows_of, text_of}
 use Rattle.tab_tests.specs.TabForms.{tab_form, tab_image, tab_objections, type_objections, option_objections, all_text, reading_of, rows_in, cells_held, unwritten, tab_refusals, bound_by}
 use Rattle.tab_tests.specs.declared.tabs.TabTable.{TabTable}

@@ -11,17 +11,16 @@ use Rattle.med_value.specs.declared.cause.Cause.TheVariants.{TableNotFound, Data
 use Rattle.med_value.specs.declared.value.ColType.{ColType}
 use Rattle.med_value.specs.declared.value.ColType.TheVariants as types
 use Rattle.fdw_api.specs.Scan.{TableRow, row_fits}
-use Rattle.fdw_api.specs.Kinds.{Kind, Column, OptionForm, Entry, Bytes, Stored, Held, Reading, Refusals, kinds_of, all_fit}
-use Rattle.fdw_api.specs.Kinds.{as_they_come, is_of_run}
+use Rattle.fdw_api.specs.Kinds.{Kind, Column, OptionForm, Entry, Bytes, Stored, Held, Reading, Refusals, kinds_of, all_fit, as_they_come, is_of_run}
 use Rattle.fdw_api.specs.State.{BoxTable}
 use Rattle.fdw_api.specs.Writes.{rows_after}
 use Rattle.fdw_api.specs.declared.scan.Agree.TheVariants.{Ignored}
-use Rattle.place_index.specs.Scans.{takes}
-use Rattle.place_index.proofs.Taking.{takes_exact, takes_sound}
-use Rattle.place_index.proofs.Skipping.{taken_needs}
+use Rattle.wrapper_parts.specs.Scans.{takes}
+use Rattle.wrapper_parts.proofs.Taking.{takes_exact, takes_sound}
+use Rattle.wrapper_parts.proofs.Skipping.{taken_needs}
 use Rattle.place_wrapper.specs.Forms.{Form, IsNumbered}
 use Rattle.place_wrapper.proofs.Causes.{only_cause}
-use Rattle.kept_rows.specs.Kept.{no_line, as_held, numbered}
+use Rattle.tab_tests.specs.Kept.{no_line, as_held, numbered}
 use Rattle.tab_tests.specs.Tabs.{is_plain, is_row, texts, is_table, rows_of, text_of}
 use Rattle.tab_tests.specs.declared.tabs.TabTable.{TabTable}
 

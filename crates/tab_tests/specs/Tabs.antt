@@ -1,6 +1,5 @@
 -- Tables of tab-separated lines: a row a line and a field a column, as rows stand in replies, without a header and without escapes.
-use Rattle.std.specs.Prelude.{ℕ, Bool, true, false, not, ◌&&◌, ◌||◌, ◌==◌, List, [], ◌∷◌, ◌++◌, map, flat_map, replicate}
-use Rattle.std.specs.Prelude.{nat_lt, bytes_eq, codes, if◌then◌else◌}
+use Rattle.std.specs.Prelude.{ℕ, Bool, true, false, not, ◌&&◌, ◌||◌, ◌==◌, List, [], ◌∷◌, ◌++◌, map, flat_map, replicate, nat_lt, bytes_eq, codes, if◌then◌else◌}
 use Rattle.std.specs.List.{list_all, list_any, slice_split}
 use Rattle.std.specs.Str.{is_utf8}
 use Rattle.std.specs.Str.Lines.{lines}
@@ -16,12 +15,12 @@ abbrev pub cell_of : List ℕ → Datum
 cell_of field = if bytes_eq field (codes "\\N") then NoValue else Chars field
 
 -- the cells of a line, between its tabs
-abbrev pub cells_of : List ℕ → Tuple
-cells_of line = map cell_of (slice_split (λ b. b == 9) line)
+abbrev pub line_cells : List ℕ → Tuple
+line_cells line = map cell_of (slice_split (λ b. b == 9) line)
 
 -- the rows of a content, one for each line
 abbrev pub rows_of : List ℕ → List Tuple
-rows_of content = map cells_of (lines content)
+rows_of content = map line_cells (lines content)
 
 -- the bytes of control characters, and backslash: a reply would escape some of them, and U+0000 stands in no text
 abbrev pub is_mark : ℕ → Bool

@@ -1,18 +1,17 @@
 //! Tables of tab-separated lines: a row a line, a field a column, each of text. `\N` is NULL, and there are no escapes.
 ghost use Rattle.std.specs.Prelude.{◌≡◌, true, false, map, IfOk, IfErr};
 ghost use Rattle.med_value.specs.Datum.{datum, tuple};
-ghost use Rattle.tab_tests.specs.Tabs.{is_plain, is_row, are_rows, texts, cells_of, rows_of, text_of};
+ghost use Rattle.tab_tests.specs.Tabs.{is_plain, is_row, are_rows, texts, line_cells, rows_of, text_of};
 
+use crate::rows_after;
 use fdw_api::interface::{Fault, TableOption};
 use fdw_api::scan::{Agree, Restriction, ScanSpec};
-use kept_rows::rows_after;
 use med_value::text::row_text;
 use med_value::{Cause, ColumnDef, NoMemory, Row, Value};
-use place_index::{Sought, takes, value_at};
 use place_wrapper::PlacedTable;
-use staged_changes::RowChange;
 use std::alloc::Global;
 use std::str::from_utf8;
+use wrapper_parts::{RowChange, Sought, takes, value_at};
 
 /// A blob of tab-separated lines as a table.
 #[derive(Drop)]
@@ -58,7 +57,7 @@ fn new_table(remote: String, width: usize, rows: Vec<Row>, cause: Cause) -> Resu
 
 // The row of a line.
 pub(crate) fn row_of(alloc: Global, line: &str) -> Result<Row, NoMemory>
-    ensures { IfOk result (λ row. tuple row ≡ cells_of line.now) }
+    ensures { IfOk result (λ row. tuple row ≡ line_cells line.now) }
 {
     let fields: Vec<&str> = line.split('\t').collect(alloc)?;
     let mut cells = Vec::new(alloc);

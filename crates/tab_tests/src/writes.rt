@@ -2,7 +2,7 @@
 ghost use Rattle.std.specs.Prelude.{◌≡◌, true, map, IfOk};
 ghost use Rattle.std.specs.List.{list_all};
 ghost use Rattle.fdw_api.specs.Writes.{row_of_change_fits};
-ghost use Rattle.staged_changes.specs.Staged.{change_is};
+ghost use Rattle.wrapper_parts.specs.Staged.{change_is};
 ghost use Rattle.tab_tests.specs.Tabs.{texts};
 ghost use Rattle.tab_tests.specs.TabForms.{tab_form};
 
@@ -11,9 +11,9 @@ use crate::tabs::{TabTable, row_of};
 use fdw_api::interface::Fault;
 use med_value::{Cause, NoMemory, Row, Value};
 use place_wrapper::PlacedTable;
-use staged_changes::RowChange;
 use std::alloc::Global;
 use std::test::Fail;
+use wrapper_parts::RowChange;
 
 // A content as the table of the tests.
 fn read_parts(alloc: Global, content: &[u8]) -> Result<TabTable, Fault>

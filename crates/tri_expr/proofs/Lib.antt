@@ -14,3 +14,4 @@ pub mod Decides
 pub mod SameVerdicts
 pub mod SameTrees
 pub mod BareTrees
+mod Apart

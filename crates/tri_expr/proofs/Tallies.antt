@@ -93,17 +93,17 @@ aggregated_shuffled Sum s = rw (as_long (filtered is_present s), total_shuffled 
 aggregated_shuffled Min s = ap Is (least_shuffled s)
 aggregated_shuffled Max s = ap Is (greatest_shuffled s)
 
-to_front : (vs : List Datum) (v : Datum) → Shuffled (vs ++ v ∷ []) (v ∷ vs)
+pub to_front : (vs : List Datum) (v : Datum) → Shuffled (vs ++ v ∷ []) (v ∷ vs)
 to_front [] v = same (v ∷ [])
 to_front (w ∷ vs) v = both (skip w (to_front vs v)) (turn w v vs)
 
-best_more : (k : SetFunction) (vs : List Datum) (v : Datum) → better_of k (best_of k vs) v ≡ best_of k (vs ++ v ∷ [])
+pub best_more : (k : SetFunction) (vs : List Datum) (v : Datum) → better_of k (best_of k vs) v ≡ best_of k (vs ++ v ∷ [])
 best_more Count vs v = refl
 best_more Sum vs v = refl
 best_more Min vs v = lesser_either (gather lesser NoValue vs) v ∙ sym (least_shuffled (to_front vs v))
 best_more Max vs v = greater_either (gather greater NoValue vs) v ∙ sym (greatest_shuffled (to_front vs v))
 
-count_one : (v : Datum) (n : ℕ) (vs : List Datum) → n ≡ length (filter is_present vs) → n + cond (is_missing v) 0 1 ≡ length (filter is_present (v ∷ vs))
+pub count_one : (v : Datum) (n : ℕ) (vs : List Datum) → n ≡ length (filter is_present vs) → n + cond (is_missing v) 0 1 ≡ length (filter is_present (v ∷ vs))
 count_one NoValue n vs e = omega (arith, e)
 count_one (Whole m) n vs e = omega (arith, e)
 count_one (Chars t) n vs e = omega (arith, e)

@@ -9,7 +9,7 @@ use Rattle.med_value.specs.declared.value.ColType.{ColType}
 use Rattle.fdw_api.specs.Scan.{Spec, spec_of, restriction_form, params_fit}
 use Rattle.fdw_api.specs.Kinds.{Column, OptionForm, Change, Inserts}
 use Rattle.fdw_api.specs.State.{BoxTable, Scan, Staging, BoxState, IsIdle, table_of, scan_of, set_at}
-use Rattle.fdw_api.specs.Calls.{CanBind, Binds, RefusesBind, Allows, CanBegin, CanUnbind, Unbinds, Begins, IsOpen, Iterates, Breaks, CanRescan, Rescans, Ends, Refuses}
+use Rattle.fdw_api.specs.Calls.{CanBind, Binds, Allows, CanBegin, CanUnbind, Unbinds, Begins, IsOpen, Iterates, Breaks, CanRescan, Rescans, Ends, Refuses}
 use Rattle.fdw_api.specs.Writes.{CanModify, Opens, CanChange, Stages, CanClose, Closes, row_of_change_fits}
 use Rattle.fdw_api.specs.declared.scan.ScanSpec.{ScanSpec}
 use Rattle.fdw_api.specs.declared.interface.Fault.{Fault}
@@ -17,7 +17,6 @@ use Rattle.fdw_api.specs.declared.interface.SourceRow.{SourceRow}
 use Rattle.probe_wrapper.specs.declared.failing.Failure.TheVariants.{Before}
 use Rattle.probe_wrapper.specs.Counting.{counted}
 use Rattle.probe_wrapper.specs.Failing.{failed, staging_of}
-use Rattle.probe_wrapper.proofs.CallLemmas.{begun_is_open, open_is_live, rescan_is_open}
 
 put_same : {X : Type 0} (m : finmap.FinMap nat_cmp X) (k : ℕ) (v : X) → finmap.get (finmap.insert m k v) k ≡ Some v
 put_same m k v = grind (gets, rules)
@@ -42,14 +41,6 @@ pub idle_can_bind : (s : BoxState) (remote : List ℕ) (columns : List Column) (
 idle_can_bind s remote columns settings idle no_objection = record {
   free = λ t b is. absurd (not_none (table_of s t) b (idle.no_table t) is);
   no_objection = no_objection;
-}
-
--- a refused bind leaves a wrapper idle
-pub refused_is_idle : (old new : BoxState) (remote : List ℕ) (columns : List Column) (settings : List OptionForm) (fault : Fault) → IsIdle old → RefusesBind old remote columns settings fault new → IsIdle new
-refused_is_idle old new remote columns settings fault idle r = record {
-  no_table = λ t. ap (λ z. z.tables t) r.refuses.ledger ∙ idle.no_table t;
-  no_scan = λ q. ap (λ z. finmap.get z.live q) r.refuses.ledger ∙ idle.no_scan q;
-  no_staging = ap (λ z. z.staged) r.refuses.ledger ∙ idle.no_staging;
 }
 
 -- a refused call leaves all scans and tables

@@ -3,7 +3,7 @@ ghost use Rattle.std.specs.Prelude.{◌≡◌, [], List, IsSome};
 ghost use Rattle.fdw_api.specs.Kinds.{Column};
 ghost use Rattle.fdw_api.specs.State.{IsIdle, table_of};
 ghost use Rattle.fdw_api.specs.Lifting.{lifted};
-ghost use Rattle.either_source.specs.Either.{box_of_either};
+ghost use Rattle.source_kinds.specs.Either.{box_of_either};
 ghost use Rattle.probe_wrapper.specs.Counting.{counted};
 ghost use Rattle.probe_wrapper.specs.Shy.{shied, asked_of};
 ghost use Rattle.probe_wrapper.specs.Vague.{vague};
@@ -15,11 +15,11 @@ use crate::parameters::read_by_part;
 use crate::reads::{
     begin_two, read, read_above_one, read_again, read_in_turn, read_two, write_counts,
 };
-use either_source::EitherSource;
 use fdw_api::interface::Wrapper;
 use fdw_api::lift::Lift;
 use med_value::TableNo;
 use probe_wrapper::{Counting, Failing, Shuffled, Shy, Vague};
+use source_kinds::EitherSource;
 use std::alloc::Global;
 use std::test::Fail;
 

@@ -1,5 +1,5 @@
 //! The list of orders: its rows, its columns, and how it is bound and written.
-ghost use Rattle.std.specs.Prelude.{◌≡◌, ◌∷◌, [], ℕ, List, map, Some, IfOk, OnOk, IsSome, IsTrue};
+ghost use Rattle.std.specs.Prelude.{◌≡◌, ◌∷◌, [], List, map, Some, IfOk, OnOk, IsSome, IsTrue};
 ghost use Rattle.med_value.specs.Datum.{tuple, Whole};
 ghost use Rattle.med_value.specs.declared.value.ColType.TheVariants.{Int};
 ghost use Rattle.fdw_api.specs.Kinds.{Column, column_of};

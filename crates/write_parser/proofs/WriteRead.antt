@@ -1,35 +1,34 @@
 -- What is told of a statement's tokens.
 use Rattle.std.proofs.Common.{◌≡◌, ℕ, ◌+◌, ◌≤◌, ◌<◌, ◌⊎◌, inl, inr, Bool, true, false, cond, List, [], ◌∷◌, ◌++◌, length, refl, sym, ◌∙◌, ap, subst, ◌-◌, arith, length-append}
-use Rattle.std.specs.Prelude.{Result, Ok, Err, IfOk, IfErr, Option, count_by}
+use Rattle.std.specs.Prelude.{Result, Ok, Err, IfOk, IfErr, Option, count_by, take, drop}
 use Rattle.std.proofs.lemmas.List.Recursion.{is_count_by}
-use Rattle.std.specs.Prelude.{take, drop}
 use Rattle.std.proofs.lemmas.List.{take_rest, drop-map, drop_at, length-map}
 use Rattle.med_lexer.specs.declared.Token.{Token}
 use Rattle.med_lexer.specs.View.{shape_of}
-use Rattle.expr_grammar.specs.View.{shapes_of}
-use Rattle.expr_grammar.specs.SymbolView.{terminal_of_symbol, terminals_of}
-use Rattle.expr_grammar.specs.declared.symbols.Symbol.{Symbol}
+use Rattle.med_syntax.specs.View.{shapes_of}
+use Rattle.med_syntax.specs.SymbolView.{terminal_of_symbol, terminals_of}
+use Rattle.med_syntax.specs.declared.symbols.Symbol.{Symbol}
 use Rattle.med_lexer.specs.Lexemes.{Shape}
-use Rattle.expr_grammar.specs.declared.refusal.ReadFault.{ReadFault}
-use Rattle.expr_grammar.specs.declared.refusal.ReadFault.TheVariants as faults
-use Rattle.expr_grammar.specs.declared.refusal.Refusal.{Refusal}
-use Rattle.expr_grammar.specs.declared.refusal.Refusal.TheVariants.{Syntax, TooHigh}
-use Rattle.expr_grammar.specs.ExprAnswers.{ReadsAs}
-use Rattle.expr_grammar.specs.ExprTerminals.{terminals_at, AreReadable}
-use Rattle.expr_grammar.specs.Shapes.{deepens}
-use Rattle.expr_grammar.proofs.ExprTerminals.{terminals_are}
-use Rattle.expr_grammar.proofs.ExprWeighing.{weight_is, deep}
-use Rattle.expr_grammar.proofs.ExprSound.{ok_same}
+use Rattle.med_syntax.specs.declared.refusal.ReadFault.{ReadFault}
+use Rattle.med_syntax.specs.declared.refusal.ReadFault.TheVariants as faults
+use Rattle.med_syntax.specs.declared.refusal.Refusal.{Refusal}
+use Rattle.med_syntax.specs.declared.refusal.Refusal.TheVariants.{Syntax, TooHigh}
+use Rattle.med_syntax.specs.ExprAnswers.{ReadsAs}
+use Rattle.med_syntax.specs.ExprTerminals.{terminals_at, AreReadable}
+use Rattle.med_syntax.specs.Shapes.{deepens}
+use Rattle.med_syntax.proofs.ExprTerminals.{terminals_are}
+use Rattle.med_syntax.proofs.ExprWeighing.{weight_is, deep}
+use Rattle.med_syntax.proofs.ExprSound.{ok_same}
 use Rattle.med_syntax.specs.Tree.{Name}
 use Rattle.med_syntax.specs.Terminal.{Terminal}
 use Rattle.med_syntax.specs.declared.statement.Statement.{Statement}
 use Rattle.med_syntax.specs.declared.statement.Statement.TheVariants as s
 use Rattle.med_syntax.specs.QueryTree.{SelectTree, StatementTree, select, statement_height}
 use Rattle.med_syntax.specs.QueryView.{select_tree, statement_tree}
-use Rattle.query_grammar.specs.declared.query_symbols.Place.TheVariants.{Before}
-use Rattle.query_grammar.specs.QueryTerminals.{words_at}
-use Rattle.query_grammar.specs.QueryGrammar.{IsLine, IsStatement}
-use Rattle.query_grammar.proofs.QueryTerminals.{to_terminals, of_terminals}
+use Rattle.med_syntax.specs.declared.query_symbols.Place.TheVariants.{Before}
+use Rattle.med_syntax.specs.QueryTerminals.{words_at}
+use Rattle.med_syntax.specs.QueryGrammar.{IsLine, IsStatement}
+use Rattle.med_syntax.proofs.QueryTerminals.{to_terminals, of_terminals}
 use Rattle.query_reader.specs.QueryReading.{bounded_line}
 use Rattle.query_reader.proofs.PartSound.{err_ok}
 use Rattle.query_reader.proofs.QueryComplete as query_line

@@ -3,12 +3,12 @@ use Rattle.std.specs.Prelude.{◌<◌, ◌⊎◌, Bool, ◌&&◌, List, count_by
 use Rattle.med_value.specs.Limits.{height_limit}
 use Rattle.med_lexer.specs.Lexemes.{Shape}
 use Rattle.med_syntax.specs.ExprTree.{ExprTree}
-use Rattle.expr_grammar.specs.Shapes.{deepens}
-use Rattle.expr_grammar.specs.ExprGrammar.{in_range}
-use Rattle.expr_grammar.specs.declared.refusal.ReadFault.{ReadFault}
-use Rattle.expr_grammar.specs.declared.refusal.ReadFault.TheVariants as faults
-use Rattle.expr_grammar.specs.declared.refusal.Refusal.TheVariants.{Syntax, TooHigh}
-use Rattle.query_grammar.specs.QueryCauses.{all_in_range, perhaps_in_range, select_in_range}
+use Rattle.med_syntax.specs.Shapes.{deepens}
+use Rattle.med_syntax.specs.ExprGrammar.{in_range}
+use Rattle.med_syntax.specs.declared.refusal.ReadFault.{ReadFault}
+use Rattle.med_syntax.specs.declared.refusal.ReadFault.TheVariants as faults
+use Rattle.med_syntax.specs.declared.refusal.Refusal.TheVariants.{Syntax, TooHigh}
+use Rattle.med_syntax.specs.QueryCauses.{all_in_range, perhaps_in_range, select_in_range}
 use Rattle.med_syntax.specs.WriteTree.{GivenTree, values, rows_of, SetTree, UpdateTree, DeleteTree, WriteTree, insert, update, delete, write_height}
 use Rattle.write_parser.specs.WriteGrammar.{IsWrite}
 

@@ -14,8 +14,8 @@ use Rattle.med_syntax.specs.Terminal.{Terminal, AreTerminals}
 use Rattle.med_syntax.specs.Terminal as t
 use Rattle.med_syntax.specs.ExprTree.{ExprTree, IsExpr}
 use Rattle.med_syntax.specs.QueryTree.{select}
-use Rattle.expr_grammar.specs.Shapes.{shapes}
-use Rattle.query_grammar.specs.QueryGrammar.{keywords, SpellsList, SpellsEntry, SpellsPerhaps, SpellsExpr, IsEnd, IsStatement}
+use Rattle.med_syntax.specs.Shapes.{shapes}
+use Rattle.med_syntax.specs.QueryGrammar.{keywords, SpellsList, SpellsEntry, SpellsPerhaps, SpellsExpr, IsEnd, IsStatement}
 use Rattle.med_syntax.specs.WriteTree.{GivenTree, values, rows_of, SetTree, UpdateTree, DeleteTree, WriteTree, insert, update, delete}
 
 -- ( x {, x} )

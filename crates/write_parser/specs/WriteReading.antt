@@ -1,10 +1,10 @@
 -- Reading the statements that write rows by recursive descent, on lists of terminals, with room for the height of each expression.
 use Rattle.std.specs.Prelude.{ℕ, cond, List, [], ◌∷◌, codes, Result, Ok, Err, Option, Some, None}
 use Rattle.med_value.specs.declared.order.Comparison.TheVariants.{Equal}
-use Rattle.expr_grammar.specs.declared.refusal.Refusal.{Refusal}
-use Rattle.expr_grammar.specs.declared.refusal.Refusal.TheVariants.{Syntax}
-use Rattle.expr_grammar.specs.ExprReading.{◌>>=◌, choose, below}
-use Rattle.expr_grammar.specs.ExprWeight.{bounded}
+use Rattle.med_syntax.specs.declared.refusal.Refusal.{Refusal}
+use Rattle.med_syntax.specs.declared.refusal.Refusal.TheVariants.{Syntax}
+use Rattle.med_syntax.specs.ExprReading.{◌>>=◌, choose, below}
+use Rattle.med_syntax.specs.ExprWeight.{bounded}
 use Rattle.med_syntax.specs.Tree.{Name}
 use Rattle.med_syntax.specs.Terminal.{Terminal}
 use Rattle.med_syntax.specs.Terminal as t

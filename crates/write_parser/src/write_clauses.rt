@@ -1,8 +1,8 @@
 //! Statements that write rows, by recursive descent.
 
-ghost use Rattle.expr_grammar.specs.ExprAnswers.{ReadsAs};
-ghost use Rattle.expr_grammar.specs.ExprWeight.{again};
-ghost use Rattle.expr_grammar.specs.SymbolView.{terminals_of};
+ghost use Rattle.med_syntax.specs.ExprAnswers.{ReadsAs};
+ghost use Rattle.med_syntax.specs.ExprWeight.{again};
+ghost use Rattle.med_syntax.specs.SymbolView.{terminals_of};
 ghost use Rattle.med_syntax.specs.ExprView.{expr_tree};
 ghost use Rattle.query_reader.specs.QueryReading.{is_end};
 ghost use Rattle.std.specs.Prelude.{◌≡◌, ◌<◌, map, option_map, Err};
@@ -12,9 +12,9 @@ ghost use Rattle.med_syntax.specs.WriteView.{names_tree, set_tree, write_tree};
 
 use crate::write_lists::{columns, row_list, set_list};
 use crate::write_words::{behind_two, behind_word, entry, expr, name};
-use expr_grammar::refusal::{ReadFault, Refusal};
-use expr_grammar::symbols::{Symbol, Symbols};
-use expr_grammar::weighing::{ROOM, weight};
+use med_syntax::refusal::{ReadFault, Refusal};
+use med_syntax::symbols::{Symbol, Symbols};
+use med_syntax::weighing::{ROOM, weight};
 use med_syntax::{Delete, Expr, Given, Insert, SetClause, Update, WriteStatement};
 use med_value::limits::HEIGHT_LIMIT;
 use std::alloc::Global;

@@ -1,8 +1,8 @@
 //! Lists with a comma between each two.
 
-ghost use Rattle.expr_grammar.specs.ExprAnswers.{ReadsAs};
-ghost use Rattle.expr_grammar.specs.ExprReading.{below};
-ghost use Rattle.expr_grammar.specs.SymbolView.{terminals_of};
+ghost use Rattle.med_syntax.specs.ExprAnswers.{ReadsAs};
+ghost use Rattle.med_syntax.specs.ExprReading.{below};
+ghost use Rattle.med_syntax.specs.SymbolView.{terminals_of};
 ghost use Rattle.med_syntax.specs.ExprView.{expr_tree};
 ghost use Rattle.query_reader.specs.QueryReading.{list_of, read_name};
 ghost use Rattle.std.specs.Prelude.{◌≡◌, ◌<◌, map, option_map};
@@ -11,8 +11,8 @@ ghost use Rattle.write_parser.specs.WriteReading as reading;
 ghost use Rattle.med_syntax.specs.WriteView.{names_tree, row_tree, set_tree};
 
 use crate::write_words::{behind_left, behind_right, expr, name, set_at};
-use expr_grammar::refusal::{ReadFault, Refusal};
-use expr_grammar::symbols::{Separator, Symbols, behind};
+use med_syntax::refusal::{ReadFault, Refusal};
+use med_syntax::symbols::{Separator, Symbols, behind};
 use med_syntax::{Expr, SetClause};
 use std::alloc::Global;
 

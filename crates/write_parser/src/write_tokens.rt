@@ -1,7 +1,7 @@
 //! Tokens to statements that write rows.
 
-ghost use Rattle.expr_grammar.specs.ExprTerminals.{AreReadable};
-ghost use Rattle.expr_grammar.specs.View.{shapes_of};
+ghost use Rattle.med_syntax.specs.ExprTerminals.{AreReadable};
+ghost use Rattle.med_syntax.specs.View.{shapes_of};
 ghost use Rattle.std.specs.Prelude.{◌≤◌, IfOk, IfErr};
 ghost use Rattle.med_value.specs.Limits.{height_limit};
 ghost use Rattle.write_parser.specs.WriteCauses.{Refuses};
@@ -10,16 +10,16 @@ ghost use Rattle.med_syntax.specs.WriteTree.{write_height};
 ghost use Rattle.med_syntax.specs.WriteView.{write_tree};
 
 use crate::write_clauses::{bounded, query_at};
-use expr_grammar::expr_symbols::symbols_of;
-use expr_grammar::refusal::ReadFault;
-use med_lexer::Token;
+use med_syntax::expr_symbols::symbols_of;
+use med_syntax::refusal::ReadFault;
+use med_syntax::token_list::Tokens;
 use med_syntax::{Given, Insert, WriteStatement};
 use query_reader::statement_of;
 use std::alloc::Global;
 
 /// The statement that writes rows that all of the tokens are, or why they are refused: they are none, or one of its expressions is too
 /// high, or memory was refused.
-pub fn write_of(alloc: Global, tokens: &[Token]) -> Result<WriteStatement, ReadFault>
+pub fn write_of(alloc: Global, tokens: Tokens<'_>) -> Result<WriteStatement, ReadFault>
     requires { AreReadable (shapes_of tokens.now) }
     // What is answered is the tokens' tree.
     ensures found { IfOk result (λ w. IsWrite (shapes_of tokens.now) (write_tree w)) }

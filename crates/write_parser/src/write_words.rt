@@ -1,8 +1,8 @@
 //! Words, names and tables at the front of symbols.
 
-ghost use Rattle.expr_grammar.specs.ExprAnswers.{ReadsAs};
-ghost use Rattle.expr_grammar.specs.ExprReading.{below};
-ghost use Rattle.expr_grammar.specs.SymbolView.{terminals_of};
+ghost use Rattle.med_syntax.specs.ExprAnswers.{ReadsAs};
+ghost use Rattle.med_syntax.specs.ExprReading.{below};
+ghost use Rattle.med_syntax.specs.SymbolView.{terminals_of};
 ghost use Rattle.med_syntax.specs.ExprView.{expr_tree};
 ghost use Rattle.med_syntax.specs.QueryView.{entry_tree};
 ghost use Rattle.query_reader.specs.QueryReading as query;
@@ -10,9 +10,9 @@ ghost use Rattle.std.specs.Prelude.{◌≡◌, ◌<◌, ◌∷◌, [], option_ma
 ghost use Rattle.std.specs.String.{string_bytes};
 ghost use Rattle.write_parser.specs.WriteReading as reading;
 
-use expr_grammar::refusal::{ReadFault, Refusal};
-use expr_grammar::symbols::{Symbol, Symbols};
 use expr_reader::whole;
+use med_syntax::refusal::{ReadFault, Refusal};
+use med_syntax::symbols::{Symbol, Symbols};
 use med_syntax::{Entry, Expr};
 use med_value::Comparison;
 use std::alloc::Global;

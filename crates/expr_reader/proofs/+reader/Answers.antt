@@ -1,13 +1,13 @@
 -- The goals of the parser that the search leaves.
 use Rattle.std.proofs.Common.{arith, ◌-◌, ◌<◌, List, length, ap, subst, sym}
 use Rattle.std.proofs.lemmas.Result.{err_from_is_err_and}
-use Rattle.expr_grammar.specs.declared.symbols.Symbol.{Symbol}
-use Rattle.expr_grammar.specs.ExprReading.{Read, below}
+use Rattle.med_syntax.specs.declared.symbols.Symbol.{Symbol}
+use Rattle.med_syntax.specs.ExprReading.{Read, below}
 use Rattle.expr_reader.specs.ReaderAnswers.{Answers}
 use Rattle.med_syntax.specs.declared.expr.Expr.{Expr}
 use Rattle.med_syntax.specs.ExprTree.{binary}
 use Rattle.med_syntax.specs.ExprView.{expr_tree, expr_trees}
-use Rattle.expr_grammar.specs.SymbolView.{terminals_of}
+use Rattle.med_syntax.specs.SymbolView.{terminals_of}
 use Rattle.expr_reader.proofs.ExprLoops.{OthersLoop, chain_preserved, chain_smaller, chain_failed, chain_failed_high, chain_end, others_smaller, others_preserved, others_failed, others_end, parts_low, signed_plain, signed_minus, operand_sum}
 use Rattle.expr_reader.proofs.+reader.Goals as goal
 

@@ -1,13 +1,13 @@
 -- The room first, then how far down a level stands.
 use Rattle.std.proofs.Common.{ℕ, ◌+◌, ◌*◌, length}
 use Rattle.med_syntax.specs.ExprView.{expr_tree, expr_trees}
-use Rattle.expr_grammar.specs.SymbolView.{terminals_of}
+use Rattle.med_syntax.specs.SymbolView.{terminals_of}
 use Rattle.med_syntax.specs.declared.expr.Joint.{Joint}
 use Rattle.med_syntax.specs.declared.expr.Joint.TheVariants.{Or, And}
-use Rattle.expr_grammar.specs.declared.symbols.Separator.{Separator}
-use Rattle.expr_grammar.specs.declared.symbols.Separator.TheVariants.{Between, Comma}
-use Rattle.expr_grammar.specs.declared.symbols.Level.{Level}
-use Rattle.expr_grammar.specs.declared.symbols.Level.TheVariants.{Sum, Product}
+use Rattle.med_syntax.specs.declared.symbols.Separator.{Separator}
+use Rattle.med_syntax.specs.declared.symbols.Separator.TheVariants.{Between, Comma}
+use Rattle.med_syntax.specs.declared.symbols.Level.{Level}
+use Rattle.med_syntax.specs.declared.symbols.Level.TheVariants.{Sum, Product}
 use Rattle.expr_reader.proofs.ExprLoops.{ChainLoop, OthersLoop}
 use Rattle.expr_reader.proofs.+reader.Given as goal
 

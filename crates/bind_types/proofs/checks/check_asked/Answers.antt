@@ -6,9 +6,9 @@ use Rattle.bind_types.specs.Typing.{item_type_causes, condition_type_causes}
 use Rattle.bind_names.proofs.Causes.{tells_left, tells_right}
 use Rattle.bind_types.proofs.checks.check_asked.Goals as goal
 
-pub returns-in_err-check_condition : goal.returns-in_err-check_condition
-returns-in_err-check_condition c =
+pub returns-in_err-type_where : goal.returns-in_err-type_where
+returns-in_err-type_where c =
     let s = scope_of c.args.scope.now in
     let q = core_tree c.args.core.now in
-    let p = err_from_is_err_and c.from_residual-in_err-check_condition.result c.from_residual-in_err-check_condition.ensures.1 in
-    rw (p.1, p.2) (tells_right (flat_map (item_type_causes s) q.items) _ _ (tells_left (condition_type_causes s q.condition) _ _ c.in_err-check_condition.ensures))
+    let p = err_from_is_err_and c.from_residual-in_err-type_where.result c.from_residual-in_err-type_where.ensures.1 in
+    rw (p.1, p.2) (tells_right (flat_map (item_type_causes s) q.items) _ _ (tells_left (condition_type_causes s q.condition) _ _ c.in_err-type_where.ensures))

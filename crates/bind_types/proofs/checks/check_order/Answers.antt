@@ -17,7 +17,7 @@ returns c =
     let seen : scope_of c.as_slice-2.result.now ≡ from_scope tables q.core.from =
     ap scope_of c.as_slice-2.ensures.value ∙ c.in_ok-seen.ensures.0 ∙ ap (λ (chains : List Chain). from_scope tables (map chain_tree chains)) c.as_slice.ensures.value in
     subst (λ (xs : List Cause). Passes xs c.check_keys.result)
-    (ap (λ (s : Scope). flat_map (written_key_causes s) (map key_tree c.as_slice-3.result.now)) seen
-    ∙ ap (λ (ks : List OrderKey). flat_map (written_key_causes (from_scope tables q.core.from)) (map key_tree ks)) c.as_slice-3.ensures.value
+    (ap (λ (s : Scope). flat_map (written_key_causes s) (map key_tree c.as_slice-keys.result.now)) seen
+    ∙ ap (λ (ks : List OrderKey). flat_map (written_key_causes (from_scope tables q.core.from)) (map key_tree ks)) c.as_slice-keys.ensures.value
     ∙ sym (keys_types (from_scope tables q.core.from) (core_outputs tables q.core) q.keys))
     c.check_keys.ensures

@@ -1,5 +1,4 @@
-use Rattle.std.proofs.Common.{map}
-use Rattle.bind_types.proofs.Safety.{on_ok, safe_cores}
+use Rattle.bind_types.proofs.Safety.{safe_cores}
 use Rattle.bind_types.proofs.forms.check_form.Goals as goal
 
 pub returns-clause-safe : goal.returns-clause-safe

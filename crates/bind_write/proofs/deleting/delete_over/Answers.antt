@@ -7,10 +7,10 @@ use Rattle.med_write.specs.Form.{delete_form}
 use Rattle.med_binder.specs.Barred.{target_right_causes}
 use Rattle.med_binder.specs.Tables.{shapes}
 use Rattle.med_binder.specs.Places.{attached}
-use Rattle.write_parts.specs.Meaning.{written_column, scope_in}
-use Rattle.write_parts.specs.Naming.{target_causes}
-use Rattle.write_parts.specs.Typing.{types_of}
-use Rattle.write_parts.specs.Asking.{IsTarget, value_names}
+use Rattle.bind_write.specs.Meaning.{written_column, scope_in}
+use Rattle.bind_write.specs.Naming.{target_causes}
+use Rattle.bind_write.specs.Typing.{types_of}
+use Rattle.bind_write.specs.Asking.{IsTarget, value_names}
 use Rattle.bind_write.proofs.Writes.{target_told, scope_same, told_over, bound_over, deleted_told, names_left, write_is}
 use Rattle.bind_write.proofs.deleting.delete_over.Goals as goal
 

@@ -10,9 +10,9 @@ use Rattle.med_binder.specs.Looked.{query_in}
 use Rattle.med_binder.specs.Tables.{shapes}
 use Rattle.med_binder.specs.Places.{attached}
 use Rattle.std.proofs.lemmas.List.Elements.{Contains-append_left}
-use Rattle.write_parts.specs.Meaning.{written_column, columns_in}
-use Rattle.write_parts.specs.Naming.{target_causes}
-use Rattle.write_parts.specs.Typing.{types_of}
+use Rattle.bind_write.specs.Meaning.{written_column, columns_in}
+use Rattle.bind_write.specs.Naming.{target_causes}
+use Rattle.bind_write.specs.Typing.{types_of}
 use Rattle.bind_write.specs.Binding.{query_write}
 use Rattle.bind_write.proofs.Queries.{asked_told, answer_told, query_clear, query_typed, answer_formed}
 use Rattle.bind_write.proofs.Writes.{target_told, write_is}

@@ -8,12 +8,12 @@ use Rattle.med_binder.specs.Barred.{target_right_causes}
 use Rattle.med_binder.specs.Tables.{shapes}
 use Rattle.med_binder.specs.Places.{attached}
 use Rattle.bind_write.specs.Binding.{values_write}
-use Rattle.write_parts.specs.Meaning.{written_column, columns_in, row_meant}
-use Rattle.write_parts.specs.Naming.{target_causes, named_causes, row_name_causes, names_of}
-use Rattle.write_parts.specs.Typing.{types_of, row_type_causes}
-use Rattle.write_parts.specs.Asking.{IsTarget}
+use Rattle.bind_write.specs.Meaning.{written_column, columns_in, row_meant}
+use Rattle.bind_write.specs.Naming.{target_causes, named_causes, row_name_causes, names_of}
+use Rattle.bind_write.specs.Typing.{types_of, row_type_causes}
+use Rattle.bind_write.specs.Asking.{IsTarget}
 use Rattle.bind_write.proofs.Inserts.{fits_same, insert_formed}
-use Rattle.write_parts.proofs.Lists.{names_in_turn, types_in_turn}
+use Rattle.bind_write.proofs.Lists.{names_in_turn, types_in_turn}
 use Rattle.bind_write.proofs.Updates.{list_told}
 use Rattle.bind_write.proofs.Writes.{target_told, names_left, write_is}
 use Rattle.bind_write.proofs.inserting.values_over.Goals as goal

@@ -5,7 +5,7 @@ use Rattle.med_syntax.specs.WriteView.{names_tree}
 use Rattle.bind_names.proofs.Causes.{tells_first, tells_same, next_causes}
 use Rattle.bind_names.proofs.Parts.{drop_read}
 use Rattle.bind_types.specs.Kinds.{types_in}
-use Rattle.write_parts.specs.Typing.{row_fit_causes}
+use Rattle.bind_write.specs.Typing.{row_fit_causes}
 use Rattle.bind_write.proofs.querying.check_answer.Goals as goal
 
 pub returns-in_err-check_fit : goal.returns-in_err-check_fit

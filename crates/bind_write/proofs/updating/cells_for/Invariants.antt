@@ -2,7 +2,7 @@ use Rattle.std.proofs.Common.{◌≡◌, ◌++◌, map, option_map, string_bytes
 use Rattle.std.specs.Option.{option_and_then}
 use Rattle.med_value.specs.Column.{Column, column_of}
 use Rattle.tri_expr.specs.Tree.{tree}
-use Rattle.write_parts.specs.Meaning.{name_place}
+use Rattle.bind_write.specs.Meaning.{name_place}
 use Rattle.bind_write.proofs.updating.cells_for.Given as goal
 
 abbrev pub invariant-loop-column : goal.invariant-loop-column

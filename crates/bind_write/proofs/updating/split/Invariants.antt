@@ -2,7 +2,7 @@ use Rattle.std.proofs.Common.{◌≡◌, ◌++◌, map, string_bytes}
 use Rattle.std.specs.Vec.Iter.{into_iter_items}
 use Rattle.med_syntax.specs.ExprView.{expr_tree}
 use Rattle.med_syntax.specs.WriteView.{set_tree}
-use Rattle.write_parts.specs.Naming.{set_names, set_values}
+use Rattle.bind_write.specs.Naming.{set_names, set_values}
 use Rattle.bind_write.proofs.updating.split.Given as goal
 
 abbrev pub invariant-loop-set : goal.invariant-loop-set

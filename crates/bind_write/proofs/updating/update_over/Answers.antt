@@ -11,11 +11,11 @@ use Rattle.bind_names.proofs.Causes.{tells_same}
 use Rattle.med_binder.specs.Barred.{target_right_causes}
 use Rattle.med_binder.specs.Tables.{shapes}
 use Rattle.med_binder.specs.Places.{attached}
-use Rattle.write_parts.specs.Meaning.{written_column, columns_in, scope_in}
-use Rattle.write_parts.specs.Naming.{target_causes, set_names, set_values}
+use Rattle.bind_write.specs.Meaning.{written_column, columns_in, scope_in}
+use Rattle.bind_write.specs.Naming.{target_causes, set_names, set_values}
 use Rattle.bind_types.specs.TreeTypes.{column_kinds}
-use Rattle.write_parts.specs.Typing.{types_of}
-use Rattle.write_parts.specs.Asking.{IsTarget}
+use Rattle.bind_write.specs.Typing.{types_of}
+use Rattle.bind_write.specs.Asking.{IsTarget}
 use Rattle.bind_write.proofs.Cells.{cells_are, typed_cells}
 use Rattle.bind_write.proofs.Updates.{list_told, list_same, updated_told, cells_told, update_clear, update_typed, update_formed}
 use Rattle.bind_write.proofs.Writes.{target_told, scope_same, told_over, bound_over, write_is}

@@ -6,7 +6,7 @@ use Rattle.tri_expr.specs.Tree.{Tree}
 use Rattle.med_write.specs.Form.{trees_of}
 use Rattle.bind_names.proofs.Causes.{tells_first}
 use Rattle.bind_names.proofs.Parts.{drop_read}
-use Rattle.write_parts.specs.Typing.{row_fit_causes, row_types}
+use Rattle.bind_write.specs.Typing.{row_fit_causes, row_types}
 use Rattle.bind_write.proofs.values.check_each.Goals as goal
 
 pub returns-in_err-check_row : goal.returns-in_err-check_row

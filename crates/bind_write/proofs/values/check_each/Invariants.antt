@@ -3,7 +3,7 @@ use Rattle.med_value.specs.Column.{column_of}
 use Rattle.med_syntax.specs.WriteView.{names_tree}
 use Rattle.tri_expr.specs.Tree.{Tree}
 use Rattle.med_write.specs.Form.{trees_of}
-use Rattle.write_parts.specs.Typing.{row_fit_causes, row_types}
+use Rattle.bind_write.specs.Typing.{row_fit_causes, row_types}
 use Rattle.bind_write.proofs.values.check_each.Given as goal
 
 abbrev pub invariant-loop-row : goal.invariant-loop-row

@@ -4,8 +4,8 @@ use Rattle.med_syntax.specs.WriteView.{row_tree}
 use Rattle.med_write.specs.Form.{trees_of}
 use Rattle.bind_names.proofs.Causes.{tells_first}
 use Rattle.bind_names.proofs.Parts.{drop_read}
-use Rattle.write_parts.specs.Meaning.{row_meant}
-use Rattle.write_parts.specs.Typing.{row_type_causes}
+use Rattle.bind_write.specs.Meaning.{row_meant}
+use Rattle.bind_write.specs.Typing.{row_type_causes}
 use Rattle.bind_write.proofs.Rows.{same_at}
 use Rattle.bind_write.proofs.values.check_each_types.Goals as goal
 

@@ -1,6 +1,6 @@
 use Rattle.std.proofs.Common.{◌≡◌, map, flat_map, drop}
 use Rattle.med_syntax.specs.WriteView.{row_tree}
-use Rattle.write_parts.specs.Typing.{row_type_causes}
+use Rattle.bind_write.specs.Typing.{row_type_causes}
 use Rattle.bind_write.proofs.values.check_each_types.Given as goal
 
 abbrev pub invariant-loop-place : goal.invariant-loop-place

@@ -3,7 +3,7 @@ use Rattle.std.proofs.lemmas.Result.{err_from_is_err_and}
 use Rattle.med_syntax.specs.WriteView.{row_tree}
 use Rattle.bind_names.proofs.Causes.{tells_first}
 use Rattle.bind_names.proofs.Parts.{drop_read}
-use Rattle.write_parts.specs.Naming.{row_name_causes}
+use Rattle.bind_write.specs.Naming.{row_name_causes}
 use Rattle.bind_write.proofs.values.resolve_rows.Goals as goal
 
 pub returns-in_err-values : goal.returns-in_err-values

@@ -1,8 +1,8 @@
 use Rattle.std.proofs.Common.{◌≡◌, ◌++◌, map, flat_map, drop}
 use Rattle.med_syntax.specs.WriteView.{row_tree}
 use Rattle.med_write.specs.Form.{trees_of}
-use Rattle.write_parts.specs.Meaning.{row_meant}
-use Rattle.write_parts.specs.Naming.{row_name_causes}
+use Rattle.bind_write.specs.Meaning.{row_meant}
+use Rattle.bind_write.specs.Naming.{row_name_causes}
 use Rattle.bind_write.proofs.values.resolve_rows.Given as goal
 
 abbrev pub invariant-loop-row : goal.invariant-loop-row

@@ -5,7 +5,7 @@ use Rattle.std.proofs.lemmas.Result.{err_from_is_err_and}
 use Rattle.csv.specs.Records.{fields_of}
 use Rattle.csv_tables.specs.CsvRecords.{Record, csv_records, csv_text, heading, is_whole}
 use Rattle.csv_tables.specs.Shapes.{hides_value}
-use Rattle.staged_changes.specs.Staged.{change_is}
+use Rattle.wrapper_parts.specs.Staged.{change_is}
 use Rattle.csv_tables.specs.Flat.{header_in}
 use Rattle.csv_tables.specs.Tables.{shape_is, records_of}
 use Rattle.csv_tables.specs.Rewriting.{left_by, rows_in}

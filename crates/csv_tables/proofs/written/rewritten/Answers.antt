@@ -1,13 +1,13 @@
 use Rattle.std.proofs.Common.{◌≡◌, ◌+◌, ◌-◌, ◌<◌, ◌≤◌, ◌∷◌, ◌++◌, [], ◌∙◌, sym, ap, length, take, drop, refl, arith, rules}
 use Rattle.std.proofs.lemmas.List.{drop_all, nil_from_length}
 use Rattle.csv.specs.Records.{fields_of}
-use Rattle.staged_changes.specs.declared.fates.Fate.TheVariants.{Keep, Change as ChangeTo, Gone}
+use Rattle.wrapper_parts.specs.declared.fates.Fate.TheVariants.{Keep, Change as ChangeTo, Gone}
 use Rattle.csv_tables.specs.Held.{held_of}
 use Rattle.csv_tables.specs.Tables.{records_of, record_at}
 use Rattle.csv_tables.specs.Rewriting.{left_by}
 use Rattle.csv_tables.proofs.Flat.{cut_drop, cut_length}
 use Rattle.csv_tables.proofs.Gathering.{wide_first, gathers_all, run_more, run_none}
-use Rattle.staged_changes.proofs.Weaves.{fate_on, fate_gone, fate_past, fates_end}
+use Rattle.wrapper_parts.proofs.Weaves.{fate_on, fate_gone, fate_past, fates_end}
 use Rattle.csv_tables.proofs.written.rewritten.Goals as goal
 use Rattle.csv_tables.proofs.written.rewritten.Goals.{in-Keep, in-Change+in_ok-gathered-in-Change+in_ok-gather-in-Change, in-Gone+in_ok-gathered-in-Gone}
 

@@ -4,12 +4,12 @@ use Rattle.std.specs.List.{list_all}
 use Rattle.std.specs.String.{string_bytes}
 use Rattle.med_value.specs.Datum.{tuple}
 use Rattle.fdw_api.specs.Kinds.{Inserts, Updates, Deletes}
-use Rattle.staged_changes.specs.declared.fates.Fate.TheVariants.{Change as ChangeTo, Gone}
-use Rattle.staged_changes.specs.Staged.{change_is}
+use Rattle.wrapper_parts.specs.declared.fates.Fate.TheVariants.{Change as ChangeTo, Gone}
+use Rattle.wrapper_parts.specs.Staged.{change_is}
 use Rattle.csv_tables.specs.Tables.{shape_is}
 use Rattle.csv_tables.specs.Rewriting.{rows_left}
 use Rattle.csv_tables.proofs.Gathering.{wide_set, wide_kept}
-use Rattle.staged_changes.proofs.Weaves.{left_on, left_insert, left_update, left_delete, left_without_changes}
+use Rattle.wrapper_parts.proofs.Weaves.{left_on, left_insert, left_update, left_delete, left_without_changes}
 use Rattle.csv.specs.Records.{fields_of}
 use Rattle.csv_tables.specs.Cells.{line_of}
 use Rattle.csv_tables.specs.Shapes.{read_row}

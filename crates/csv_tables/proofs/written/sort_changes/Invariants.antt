@@ -6,7 +6,7 @@ use Rattle.fdw_api.specs.Writes.{inserted, row_of_change_fits}
 use Rattle.csv_tables.specs.Cells.{line_of}
 use Rattle.csv_tables.specs.CsvRecords.{Record, is_whole}
 use Rattle.csv_tables.specs.Shapes.{read_row, hides_value}
-use Rattle.staged_changes.specs.Staged.{change_is}
+use Rattle.wrapper_parts.specs.Staged.{change_is}
 use Rattle.csv_tables.specs.Tables.{shape_is}
 use Rattle.csv_tables.specs.Rewriting.{is_wide, rows_left}
 use Rattle.csv_tables.proofs.written.sort_changes.Given as goal

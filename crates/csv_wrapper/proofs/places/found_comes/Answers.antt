@@ -1,7 +1,7 @@
 use Rattle.std.proofs.Common.{◌≡◌, true, map, sym, rules}
 use Rattle.med_value.specs.Datum.{datum}
 use Rattle.csv_tables.specs.Tables.{cells_at, fields_at}
-use Rattle.place_index.specs.Scans.{form_of}
+use Rattle.wrapper_parts.specs.Scans.{form_of}
 use Rattle.csv_wrapper.proofs.places.found_comes.Goals as goal
 
 pub returns-then-is_decided : goal.returns-then-is_decided

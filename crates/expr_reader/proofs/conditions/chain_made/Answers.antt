@@ -1,6 +1,6 @@
 use Rattle.std.proofs.Common.{rules}
 use Rattle.med_syntax.specs.ExprView.{expr_tree}
-use Rattle.expr_grammar.specs.SymbolView.{terminals_of}
+use Rattle.med_syntax.specs.SymbolView.{terminals_of}
 use Rattle.expr_reader.proofs.ExprLoops.{chain_made_of}
 use Rattle.expr_reader.proofs.conditions.chain_made.Goals as goal
 

@@ -3,7 +3,7 @@ use Rattle.med_catalog.specs.declared.kind.SourceKind.TheVariants.{List as Lists
 use Rattle.med_world.specs.Engine.{state_of}
 use Rattle.sql_meaning.specs.World.{with_source}
 use Rattle.session_wire.specs.Worlds.{scene_of}
-use Rattle.fed_replay.specs.declared.script.ScriptFault.{ScriptFault}
+use Rattle.fed_setup.specs.declared.script.ScriptFault.{ScriptFault}
 use Rattle.fed_setup.specs.Setup.{SetsUp}
 use Rattle.fed_setup.proofs.FirstEngines.{list_takes, list_added, sets_up, told_ok, told_err}
 use Rattle.fed_setup.proofs.program.add_demo.Goals as goal

@@ -1,6 +1,6 @@
 use Rattle.std.proofs.Common.{◌≡◌, ◌≤◌, length, false}
 use Rattle.session_wire.specs.Servers.{handler_of, is_closed, held_back}
-use Rattle.fed_output.specs.Known.{Known}
+use Rattle.fed_stream.specs.Known.{Known}
 use Rattle.fed_stream.proofs.Streams.{PartsServed}
 use Rattle.fed_stream.proofs.Calls.{WrittenSoFar}
 use Rattle.fed_stream.proofs.stream.answer_parts.Given as goal

@@ -1,4 +1,4 @@
-use Rattle.std.proofs.Common.{◌≡◌, Err, sym, ap, ◌∙◌, arith, rules}
+use Rattle.std.proofs.Common.{Err, sym, ap, ◌∙◌, arith}
 use Rattle.fed_stream.specs.declared.stream.Ended.TheVariants as ended
 use Rattle.fed_stream.proofs.Streams.{unread_of-open, unread_of-closed, served_none, served_open, served_more, failed}
 use Rattle.fed_stream.proofs.Calls.{known_unserved, known_unwritten, known_more, known_done, known_fault, known_untouched, known_reads, known_end, known_closed, known_part_fault, known_read_fault, known_too_many, known_too_long_read}

@@ -1,6 +1,6 @@
 use Rattle.std.proofs.Common.{◌≡◌, false}
 use Rattle.session_wire.specs.Servers.{handler_of, is_closed, held_back, unread_of}
-use Rattle.fed_output.specs.Known.{Known}
+use Rattle.fed_stream.specs.Known.{Known}
 use Rattle.fed_stream.specs.Streams.{stream}
 use Rattle.fed_stream.specs.Served.{Served}
 use Rattle.fed_stream.proofs.Calls.{ReadSoFar, WrittenSoFar}

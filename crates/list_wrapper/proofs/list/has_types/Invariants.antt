@@ -1,6 +1,5 @@
 use Rattle.std.proofs.Common.{◌≡◌, map, length}
-use Rattle.fdw_api.specs.Kinds.{column_of}
-use Rattle.fdw_api.specs.Kinds.{kinds_of}
+use Rattle.fdw_api.specs.Kinds.{column_of, kinds_of}
 use Rattle.list_wrapper.specs.Lists.{types_match}
 use Rattle.list_wrapper.proofs.list.has_types.Given as goal
 

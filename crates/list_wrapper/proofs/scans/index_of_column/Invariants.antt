@@ -1,6 +1,6 @@
 use Rattle.std.proofs.Common.{◌≤◌, length, drop}
-use Rattle.place_index.specs.Indexes.{IsIndexFrom}
-use Rattle.place_index.specs.Scans.{column_cells}
+use Rattle.wrapper_parts.specs.Indexes.{IsIndexFrom}
+use Rattle.wrapper_parts.specs.Scans.{column_cells}
 use Rattle.list_wrapper.specs.Scans.{numbered}
 use Rattle.list_wrapper.proofs.scans.index_of_column.Given as goal
 

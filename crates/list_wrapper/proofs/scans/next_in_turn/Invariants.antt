@@ -1,5 +1,5 @@
 use Rattle.std.proofs.Common.{◌≡◌, ◌≤◌, ◌<◌, ◌+◌, ◌-◌, length}
-use Rattle.place_index.specs.Scans.{Stands}
+use Rattle.wrapper_parts.specs.Scans.{Stands}
 use Rattle.list_wrapper.specs.Scans.{numbered, spec_is, params_of, index_of, left_in_turn}
 use Rattle.list_wrapper.proofs.scans.next_in_turn.Given as goal
 

@@ -1,7 +1,7 @@
 use Rattle.std.proofs.Common.{◌≡◌, List, Some, ap, sym, subst, ◌∙◌, drop, map, option_map, rules}
 use Rattle.med_value.specs.Datum.{Datum, datum, cell}
-use Rattle.place_index.specs.Places.{first_place, Follows}
-use Rattle.place_index.specs.Scans.{SoughtForm, form_of, sought, column_cells}
+use Rattle.wrapper_parts.specs.Places.{first_place, Follows}
+use Rattle.wrapper_parts.specs.Scans.{SoughtForm, form_of, sought, column_cells}
 use Rattle.list_wrapper.specs.Scans.{numbered, spec_is, params_of, index_of}
 use Rattle.list_wrapper.specs.declared.scans.Walk.TheVariants.{ByIndex}
 use Rattle.list_wrapper.proofs.Rows.{moved}

@@ -1,10 +1,10 @@
 use Rattle.std.proofs.Common.{◌≡◌, true, false, sym, ◌∙◌, inl, inr}
 use Rattle.std.proofs.lemmas.Result.{err_from_is_err_and}
-use Rattle.expr_grammar.specs.View.{shapes_of}
+use Rattle.med_syntax.specs.View.{shapes_of}
 use Rattle.med_parser.specs.CommandTree.{command_tree}
 use Rattle.med_parser.specs.CommandCauses.{command_in_range}
-use Rattle.expr_grammar.proofs.TokenShapes.{short_names, long_name}
-use Rattle.expr_grammar.proofs.TokenNumbers.{huge, readable}
+use Rattle.med_syntax.proofs.TokenShapes.{short_names, long_name}
+use Rattle.med_syntax.proofs.TokenNumbers.{huge, readable}
 use Rattle.med_parser.proofs.CommandParsed.{told_refused, told_syntax, no_cause}
 use Rattle.med_parser.proofs.parser.checked_command.Goals as goal
 

@@ -1,7 +1,7 @@
 use Rattle.std.proofs.Common.{ap, sym, refl, ◌∙◌, List, map}
-use Rattle.open_cursors.specs.Open.{Opened, opened, seated, has_name}
+use Rattle.med_world.specs.Open.{Opened, opened, seated, has_name}
 use Rattle.med_exec.specs.Slots.{states}
-use Rattle.med_world.proofs.Named.{found_place, at_place}
+use Rattle.med_world.proofs.NamedTables.{found_place, at_place}
 use Rattle.med_session.specs.Cursors.{having}
 use Rattle.med_session.proofs.CursorLists.{all_stay}
 use Rattle.med_session.proofs.cursors.end_cursor.Goals as goal

@@ -6,11 +6,11 @@ use Rattle.med_exec.specs.declared.running.Run.{Run}
 use Rattle.std.proofs.lemmas.Grind.{common_steps}
 use Rattle.med_exec.specs.Slots.{states}
 use Rattle.med_world.specs.Turning.{later, having_asked}
-use Rattle.open_cursors.specs.Fetching.{GivesNone, no_memory, box_fails, cause_of}
-use Rattle.open_cursors.proofs.Pulled.{pulls_ended}
+use Rattle.med_world.specs.Fetching.{GivesNone, no_memory, box_fails, cause_of}
+use Rattle.med_world.proofs.Pulled.{pulls_ended}
 use Rattle.med_syntax.specs.CursorView.{count_tree}
-use Rattle.open_cursors.specs.declared.cursors.OpenCursor.{OpenCursor}
-use Rattle.open_cursors.specs.Open.{Opened, opened, opened_named, seated}
+use Rattle.med_world.specs.declared.cursors.OpenCursor.{OpenCursor}
+use Rattle.med_world.specs.Open.{Opened, opened, opened_named, seated}
 use Rattle.med_session.specs.Cursors.{having}
 use Rattle.med_session.proofs.CursorLists.{same_at, place_within, named_there, runs_there, gone_there}
 use Rattle.med_session.proofs.cursors.fetch_rows.Goals as goal

@@ -1,5 +1,5 @@
 use Rattle.std.proofs.Common.{◌≡◌, true, is_ok, rules, ap, sym, refl, ◌∙◌, List, map, string_bytes}
-use Rattle.open_cursors.specs.Open.{Opened, seated}
+use Rattle.med_world.specs.Open.{Opened, seated}
 use Rattle.med_session.specs.Cursors.{having, is_taken, not_started}
 use Rattle.med_session.proofs.CursorLists.{opened_last, is_named, is_unknown_by}
 use Rattle.med_session.proofs.cursors.open_cursor.Goals as goal

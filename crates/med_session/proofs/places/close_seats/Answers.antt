@@ -1,9 +1,9 @@
-use Rattle.std.proofs.Common.{◌≡◌, ◌∙◌, ◌<◌, List, Option, None, Some, length, replicate, slice_get, slice_set, sym, subst, arith}
+use Rattle.std.proofs.Common.{◌≡◌, ◌∙◌, ◌<◌, List, Option, None, length, replicate, slice_set, sym, subst, arith}
 use Rattle.std.proofs.lemmas.Grind.{common_steps}
 use Rattle.med_exec.specs.Running.{Held, ServesRun}
 use Rattle.med_exec.specs.Slots.{states}
 use Rattle.med_value.specs.Limits.{session_count}
-use Rattle.open_cursors.specs.Open.{Seated, seated, seats_shown, held_by, AreHeld, AreOwn, all_cursors}
+use Rattle.med_world.specs.Open.{Seated, seated, seats_shown, held_by, AreHeld, AreOwn, all_cursors}
 use Rattle.med_session.proofs.CursorLists.{next_closed}
 use Rattle.med_session.proofs.ClosingSeats.{shut_at, one_held, one_own, shut_held, shut_own, shut_served, shut_same, all_shut, shown_at, shown_none, shown_set}
 use Rattle.med_session.proofs.places.close_seats.Goals as goal

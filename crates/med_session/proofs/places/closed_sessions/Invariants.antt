@@ -1,6 +1,6 @@
 use Rattle.std.proofs.Common.{◌≡◌, ◌≤◌, ◌-◌, None, replicate, vec_len}
 use Rattle.med_value.specs.Limits.{session_count}
-use Rattle.open_cursors.specs.Open.{seats_shown}
+use Rattle.med_world.specs.Open.{seats_shown}
 use Rattle.med_session.proofs.places.closed_sessions.Given as goal
 
 abbrev pub invariant-loop-seats : goal.invariant-loop-seats

@@ -1,6 +1,6 @@
 use Rattle.std.proofs.Common.{◌≡◌, ◌-◌, Some, option_map, rules}
 use Rattle.std.proofs.lemmas.List.{map-set}
-use Rattle.open_cursors.specs.Open.{seated}
+use Rattle.med_world.specs.Open.{seated}
 use Rattle.med_session.proofs.places.put_seat.Goals as goal
 
 pub returns : goal.returns

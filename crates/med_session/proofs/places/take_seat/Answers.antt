@@ -1,6 +1,6 @@
 use Rattle.std.proofs.Common.{◌≡◌, ◌-◌, None, option_map, rules}
 use Rattle.std.proofs.lemmas.List.{map-set}
-use Rattle.open_cursors.specs.Open.{seated}
+use Rattle.med_world.specs.Open.{seated}
 use Rattle.med_session.proofs.places.take_seat.Goals as goal
 
 pub returns-clause-left : goal.returns-clause-left

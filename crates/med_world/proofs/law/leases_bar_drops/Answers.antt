@@ -1,4 +1,4 @@
-use Rattle.med_world.proofs.Leases.{told, barred, clear}
+use Rattle.med_world.proofs.LeaseLemmas.{told, barred, clear}
 use Rattle.med_world.proofs.law.leases_bar_drops.Goals as goal
 
 pub returns-clause-told : goal.returns-clause-told

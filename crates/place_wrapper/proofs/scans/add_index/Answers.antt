@@ -1,6 +1,6 @@
 use Rattle.std.proofs.Common.{◌≡◌, Some, List, map, ap, refl, subst, rules}
 use Rattle.fdw_api.specs.Scan.{TableRow, spec_of, restriction_form}
-use Rattle.place_index.specs.Scans.{Serves, form_of, sought}
+use Rattle.wrapper_parts.specs.Scans.{Serves, form_of, sought}
 use Rattle.place_wrapper.specs.Boxes.{rows_held}
 use Rattle.place_wrapper.proofs.Rows.{serves_found}
 use Rattle.place_wrapper.proofs.scans.add_index.Goals as goal

@@ -2,7 +2,7 @@ use Rattle.std.proofs.Common.{◌≡◌, Some, List, map, ap, sym, subst, ◌∙
 use Rattle.med_value.specs.Datum.{datum}
 use Rattle.med_value.specs.declared.value.Value.{Value}
 use Rattle.fdw_api.specs.Scan.{spec_of}
-use Rattle.place_index.specs.Scans.{SoughtForm, form_of, sought}
+use Rattle.wrapper_parts.specs.Scans.{SoughtForm, form_of, sought}
 use Rattle.place_wrapper.specs.Forms.{HasAt}
 use Rattle.place_wrapper.proofs.Rows.{has_at}
 use Rattle.place_wrapper.proofs.scans.row_at.Goals as goal

@@ -1,5 +1,5 @@
 use Rattle.std.proofs.Common.{length, map}
-use Rattle.expr_grammar.specs.SymbolView.{terminals_of}
+use Rattle.med_syntax.specs.SymbolView.{terminals_of}
 use Rattle.query_reader.specs.QueryReading.{source_of}
 use Rattle.med_syntax.specs.QueryView.{chain_tree}
 use Rattle.query_reader.proofs.QueryLoop.{ListLoop}

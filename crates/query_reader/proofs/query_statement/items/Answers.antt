@@ -1,9 +1,9 @@
 use Rattle.std.proofs.Common.{ap, ◌∙◌, List, [], ◌∷◌, ◌++◌, Bor, map}
 use Rattle.std.proofs.lemmas.Result.{err_from_is_err_and}
 use Rattle.med_syntax.specs.declared.statement.Item.{Item}
-use Rattle.expr_grammar.specs.declared.symbols.Symbol.{Symbol}
-use Rattle.expr_grammar.specs.SymbolView.{terminals_of}
-use Rattle.query_grammar.specs.QueryGrammar.{SpellsItem}
+use Rattle.med_syntax.specs.declared.symbols.Symbol.{Symbol}
+use Rattle.med_syntax.specs.SymbolView.{terminals_of}
+use Rattle.med_syntax.specs.QueryGrammar.{SpellsItem}
 use Rattle.query_reader.specs.QueryReading.{item_of}
 use Rattle.med_syntax.specs.QueryTree.{item_height}
 use Rattle.med_syntax.specs.QueryView.{item_tree}

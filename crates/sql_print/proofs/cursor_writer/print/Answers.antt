@@ -2,7 +2,7 @@ use Rattle.std.proofs.Common.{arith, List, ℕ, ◌≡◌, ◌∷◌, ap, sym, s
 use Rattle.std.specs.String.{string_bytes}
 use Rattle.expr_writer.proofs.ExprPrints.{removed}
 use Rattle.med_syntax.specs.CursorView.{cursor_tree}
-use Rattle.cursor_parser.specs.CursorGrammar.{HasCursor}
+use Rattle.write_parser.specs.CursorGrammar.{HasCursor}
 use Rattle.sql_print.specs.CursorPrinting.{printed_cursor}
 use Rattle.sql_print.proofs.CursorWriting.{spaced}
 use Rattle.sql_print.proofs.cursor_writer.print.Goals as goal

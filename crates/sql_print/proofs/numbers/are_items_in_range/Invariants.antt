@@ -1,5 +1,5 @@
 use Rattle.std.proofs.Common.{◌≡◌, length}
-use Rattle.query_grammar.specs.QueryCauses.{all_in_range, item_in_range}
+use Rattle.med_syntax.specs.QueryCauses.{all_in_range, item_in_range}
 use Rattle.med_syntax.specs.QueryView.{items_tree}
 use Rattle.sql_print.proofs.numbers.are_items_in_range.Given as goal
 

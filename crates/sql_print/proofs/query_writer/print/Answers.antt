@@ -1,6 +1,6 @@
 use Rattle.std.proofs.Common.{arith, List, ℕ, ◌≡◌, ◌∷◌, ap, sym, subst, length}
 use Rattle.std.specs.String.{string_bytes}
-use Rattle.query_grammar.specs.QueryGrammar.{HasStatement}
+use Rattle.med_syntax.specs.QueryGrammar.{HasStatement}
 use Rattle.sql_print.specs.QueryPrinting.{printed_statement}
 use Rattle.med_syntax.specs.QueryView.{statement_tree}
 use Rattle.expr_writer.proofs.ExprPrints.{removed}

@@ -1,5 +1,5 @@
 use Rattle.std.proofs.Common.{◌≡◌, length, map}
-use Rattle.query_grammar.specs.QueryCauses.{all_in_range}
+use Rattle.med_syntax.specs.QueryCauses.{all_in_range}
 use Rattle.write_parser.specs.WriteCauses.{row_in_range}
 use Rattle.med_syntax.specs.WriteView.{row_tree}
 use Rattle.sql_print.proofs.write_range.are_rows_in_range.Given as goal

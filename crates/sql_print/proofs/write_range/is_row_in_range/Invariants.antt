@@ -1,6 +1,6 @@
 use Rattle.std.proofs.Common.{◌≡◌, length, map}
-use Rattle.query_grammar.specs.QueryCauses.{all_in_range}
-use Rattle.expr_grammar.specs.ExprGrammar.{in_range}
+use Rattle.med_syntax.specs.QueryCauses.{all_in_range}
+use Rattle.med_syntax.specs.ExprGrammar.{in_range}
 use Rattle.med_syntax.specs.ExprView.{expr_tree}
 use Rattle.sql_print.proofs.write_range.is_row_in_range.Given as goal
 

@@ -6,7 +6,7 @@ use Rattle.med_value.specs.Causes.{phase_of}
 use Rattle.med_value.specs.Datum.{tuple}
 use Rattle.med_value.specs.declared.cause.Cause.{Cause}
 use Rattle.fdw_api.specs.Kinds.{is_of_run}
-use Rattle.staged_changes.specs.Staged.{change_is}
+use Rattle.wrapper_parts.specs.Staged.{change_is}
 use Rattle.sqlite_tables.specs.Layouts.{layout_at}
 use Rattle.sqlite_tables.specs.Tables.{rows_of, entries_in}
 use Rattle.sqlite_tables.proofs.Refused.{only_more, both_only}

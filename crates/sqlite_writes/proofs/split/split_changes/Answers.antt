@@ -3,7 +3,7 @@ use Rattle.med_value.specs.Datum.{tuple}
 use Rattle.med_value.specs.declared.cause.Cause.TheVariants.{NotNull}
 use Rattle.fdw_api.specs.declared.interface.Fault.TheVariants.{Refused}
 use Rattle.fdw_api.specs.Kinds.{Inserts, Updates}
-use Rattle.staged_changes.specs.Staged.{change_is}
+use Rattle.wrapper_parts.specs.Staged.{change_is}
 use Rattle.sqlite_writes.specs.Rewriting.{has_place}
 use Rattle.sqlite_writes.specs.Splitting.{key_for, is_holdable, IsKeyless}
 use Rattle.sqlite_writes.proofs.Splits.{gone_on, fresh_on, one_pushed, fit_on, keyed_on, all_on, has_its_key, each_row, lacks}

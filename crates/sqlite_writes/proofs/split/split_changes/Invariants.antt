@@ -2,7 +2,7 @@ use Rattle.std.proofs.Common.{◌≡◌, ◌++◌, true, map}
 use Rattle.std.specs.List.{list_all, list_any}
 use Rattle.med_value.specs.Datum.{tuple}
 use Rattle.fdw_api.specs.Writes.{row_of_change_fits}
-use Rattle.staged_changes.specs.Staged.{change_is}
+use Rattle.wrapper_parts.specs.Staged.{change_is}
 use Rattle.sqlite_tables.specs.Layouts.{kinds_in, layout_at}
 use Rattle.sqlite_writes.specs.Rewriting.{has_place}
 use Rattle.sqlite_writes.specs.Kinds.{lacks_key}

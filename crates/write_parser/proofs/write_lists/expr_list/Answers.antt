@@ -1,11 +1,11 @@
 use Rattle.std.proofs.Common.{ap, ◌∙◌, List, [], ◌∷◌, ◌++◌, Bor, map}
 use Rattle.std.proofs.lemmas.Result.{err_from_is_err_and}
-use Rattle.expr_grammar.specs.declared.symbols.Symbol.{Symbol}
-use Rattle.expr_grammar.specs.SymbolView.{terminals_of}
+use Rattle.med_syntax.specs.declared.symbols.Symbol.{Symbol}
+use Rattle.med_syntax.specs.SymbolView.{terminals_of}
 use Rattle.med_syntax.specs.declared.expr.Expr.{Expr}
-use Rattle.expr_grammar.specs.ExprReading.{below}
+use Rattle.med_syntax.specs.ExprReading.{below}
 use Rattle.med_syntax.specs.ExprView.{expr_tree}
-use Rattle.query_grammar.specs.QueryGrammar.{SpellsExpr}
+use Rattle.med_syntax.specs.QueryGrammar.{SpellsExpr}
 use Rattle.med_syntax.specs.ExprTree.{height}
 use Rattle.query_reader.proofs.PartSound.{expr_sound}
 use Rattle.query_reader.proofs.QueryLoop.{list_start, list_end, list_failed, list_unstarted, parts_more, parts_shorter}

@@ -1,8 +1,7 @@
-use Rattle.std.proofs.Common.{ap, ◌∙◌, List, [], ◌∷◌, ◌++◌, Bor, map}
+use Rattle.std.proofs.Common.{ap, ◌∙◌, List, [], ◌∷◌, ◌++◌, Bor, map, Global}
 use Rattle.std.proofs.lemmas.Result.{err_from_is_err_and}
-use Rattle.expr_grammar.specs.declared.symbols.Symbol.{Symbol}
-use Rattle.expr_grammar.specs.SymbolView.{terminals_of}
-use Rattle.std.proofs.Common.{Global}
+use Rattle.med_syntax.specs.declared.symbols.Symbol.{Symbol}
+use Rattle.med_syntax.specs.SymbolView.{terminals_of}
 use Rattle.std.specs.Prelude.{String}
 use Rattle.query_reader.specs.QueryReading.{read_name}
 use Rattle.std.specs.String.{string_bytes}

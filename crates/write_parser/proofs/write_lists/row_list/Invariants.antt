@@ -1,5 +1,5 @@
 use Rattle.std.proofs.Common.{length, map}
-use Rattle.expr_grammar.specs.SymbolView.{terminals_of}
+use Rattle.med_syntax.specs.SymbolView.{terminals_of}
 use Rattle.write_parser.specs.WriteReading.{row_of}
 use Rattle.med_syntax.specs.WriteView.{row_tree}
 use Rattle.query_reader.proofs.QueryLoop.{ListLoop}

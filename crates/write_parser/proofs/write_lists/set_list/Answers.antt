@@ -1,7 +1,7 @@
 use Rattle.std.proofs.Common.{ap, ◌∙◌, List, [], ◌∷◌, ◌++◌, Bor, map}
 use Rattle.std.proofs.lemmas.Result.{err_from_is_err_and}
-use Rattle.expr_grammar.specs.declared.symbols.Symbol.{Symbol}
-use Rattle.expr_grammar.specs.SymbolView.{terminals_of}
+use Rattle.med_syntax.specs.declared.symbols.Symbol.{Symbol}
+use Rattle.med_syntax.specs.SymbolView.{terminals_of}
 use Rattle.med_syntax.specs.declared.write.SetClause.{SetClause}
 use Rattle.write_parser.specs.WriteReading.{set_of}
 use Rattle.med_syntax.specs.WriteView.{set_tree}

@@ -2,14 +2,14 @@ use Rattle.std.proofs.Common.{◌≡◌, ◌∙◌, sym, ap, subst, false, List,
 use Rattle.std.specs.Prelude.{Ok, Err, String, Vec, Option, option_map}
 use Rattle.std.specs.String.{string_bytes}
 use Rattle.std.proofs.lemmas.Result.{err_from_is_err_and}
-use Rattle.expr_grammar.specs.declared.symbols.Symbol.{Symbol}
-use Rattle.expr_grammar.specs.ExprAnswers.{ReadsAs}
-use Rattle.expr_grammar.specs.ExprTerminals.{terminals_at, AreReadable}
-use Rattle.expr_grammar.specs.SymbolView.{terminals_of}
-use Rattle.expr_grammar.specs.View.{shapes_of}
+use Rattle.med_syntax.specs.declared.symbols.Symbol.{Symbol}
+use Rattle.med_syntax.specs.ExprAnswers.{ReadsAs}
+use Rattle.med_syntax.specs.ExprTerminals.{terminals_at, AreReadable}
+use Rattle.med_syntax.specs.SymbolView.{terminals_of}
+use Rattle.med_syntax.specs.View.{shapes_of}
 use Rattle.med_syntax.specs.QueryView.{statement_tree}
-use Rattle.query_grammar.specs.declared.query_symbols.Place.TheVariants.{Before}
-use Rattle.query_grammar.specs.QueryTerminals.{words_at}
+use Rattle.med_syntax.specs.declared.query_symbols.Place.TheVariants.{Before}
+use Rattle.med_syntax.specs.QueryTerminals.{words_at}
 use Rattle.query_reader.specs.QueryReading.{bounded_line}
 use Rattle.med_syntax.specs.WriteView.{names_tree, write_tree}
 use Rattle.write_parser.specs.WriteReading.{query_at, bounded_plain}

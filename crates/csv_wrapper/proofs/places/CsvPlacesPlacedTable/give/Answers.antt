@@ -4,7 +4,7 @@ use Rattle.med_value.specs.Datum.{datum}
 use Rattle.fdw_api.specs.Scan.{spec_of}
 use Rattle.csv_tables.specs.Tables.{cells_at, fields_at}
 use Rattle.csv_tables.specs.Scans.{comes}
-use Rattle.place_index.specs.Scans.{form_of, has_sought}
+use Rattle.wrapper_parts.specs.Scans.{form_of, has_sought}
 use Rattle.csv_wrapper.proofs.Placing.{within_count, lacks_row, fails_row, shows_row}
 use Rattle.csv_wrapper.proofs.places.CsvPlacesPlacedTable.give.Goals as goal
 

@@ -3,7 +3,7 @@ use Rattle.med_value.specs.Datum.{datum, Tuple}
 use Rattle.fdw_api.specs.Scan.{spec_of, shown_cells}
 use Rattle.csv_tables.specs.Tables.{cells_at, fields_at}
 use Rattle.csv_tables.specs.Scans.{comes}
-use Rattle.place_index.specs.Scans.{form_of}
+use Rattle.wrapper_parts.specs.Scans.{form_of}
 use Rattle.csv_wrapper.proofs.Placing.{within_count, fails_row, takes_row, cells_there, found_there}
 use Rattle.csv_wrapper.proofs.places.CsvPlacesPlacedTable.give_found.Goals as goal
 

@@ -1,5 +1,5 @@
 use Rattle.std.proofs.Common.{◌≡◌, ◌∙◌, refl, ap, sym, map, length, string_bytes, rules}
-use Rattle.staged_changes.specs.Staged.{change_is}
+use Rattle.wrapper_parts.specs.Staged.{change_is}
 use Rattle.csv_tables.specs.CsvRecords.{csv_records, heading}
 use Rattle.csv_tables.specs.Shapes.{Shape}
 use Rattle.csv_tables.specs.Flat.{header_in}

@@ -1,6 +1,6 @@
 use Rattle.std.proofs.Common.{codes, sym, subst}
 use Rattle.med_exec.specs.Slots.{states}
-use Rattle.open_cursors.specs.Open.{seated}
+use Rattle.med_world.specs.Open.{seated}
 use Rattle.med_world.specs.Engine.{Shown, IsSound, Leads}
 use Rattle.sql_meaning.specs.Replies.{done, refused}
 use Rattle.sql_meaning.specs.Requests.{bye}

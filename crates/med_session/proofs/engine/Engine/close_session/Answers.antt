@@ -1,6 +1,6 @@
 use Rattle.std.proofs.Common.{sym, subst}
 use Rattle.med_exec.specs.Slots.{states}
-use Rattle.open_cursors.specs.Open.{seated}
+use Rattle.med_world.specs.Open.{seated}
 use Rattle.med_world.specs.Engine.{Shown, IsSound, Closes}
 use Rattle.med_session.specs.Shows.{shown}
 use Rattle.med_session.proofs.Seats.{vacated, shut}

@@ -1,5 +1,5 @@
 use Rattle.med_exec.specs.Slots.{states}
-use Rattle.open_cursors.specs.Open.{seats_shown}
+use Rattle.med_world.specs.Open.{seats_shown}
 use Rattle.med_session.specs.Shows.{shown}
 use Rattle.med_session.proofs.engine.Engine.close_sessions.Goals as goal
 

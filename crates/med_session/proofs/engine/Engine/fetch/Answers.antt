@@ -1,7 +1,7 @@
 use Rattle.std.proofs.Common.{◌≡◌, ◌∙◌, map, Some, None, string_bytes, codes, sym, subst}
 use Rattle.med_value.specs.Datum.{tuple}
 use Rattle.med_exec.specs.Slots.{states}
-use Rattle.open_cursors.specs.Open.{seated}
+use Rattle.med_world.specs.Open.{seated}
 use Rattle.med_world.specs.Engine.{Shown, IsSound, Leads}
 use Rattle.sql_meaning.specs.Replies.{answered}
 use Rattle.sql_meaning.specs.Requests.{sql}

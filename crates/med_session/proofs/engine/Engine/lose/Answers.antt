@@ -1,6 +1,6 @@
 use Rattle.std.proofs.Common.{◌∙◌, None, sym, subst}
 use Rattle.med_exec.specs.Slots.{states}
-use Rattle.open_cursors.specs.Open.{seated}
+use Rattle.med_world.specs.Open.{seated}
 use Rattle.med_world.specs.Engine.{Shown, IsSound}
 use Rattle.med_world.specs.Turning.{at_once}
 use Rattle.med_session.specs.Shows.{shown}

@@ -1,7 +1,7 @@
 use Rattle.med_value.specs.declared.cause.Cause.TheVariants.{OutOfMemory}
 use Rattle.sql_meaning.specs.Replies.{refused}
 use Rattle.med_session.specs.Asking.{asked}
-use Rattle.session_replies.specs.Outcomes.{reply_of}
+use Rattle.med_statements.specs.Outcomes.{reply_of}
 use Rattle.med_session.specs.Shows.{shown}
 use Rattle.med_session.proofs.Leading.{answers, not_told, rows_untold, of_fetch}
 use Rattle.med_session.proofs.engine.Engine.request.Goals as goal

@@ -5,7 +5,7 @@ use Rattle.blob_store.specs.Names.{is_blob_name}
 use Rattle.blob_store.specs.Shelves.{Shelf}
 use Rattle.place_wrapper.specs.Holdings.{held_under}
 use Rattle.fdw_api.specs.Kinds.{column_of, option_form}
-use Rattle.staged_changes.specs.Staged.{write_is}
+use Rattle.wrapper_parts.specs.Staged.{write_is}
 use Rattle.place_wrapper.specs.Boxes.{table_at}
 use Rattle.place_wrapper.proofs.Options.{some_inj}
 use Rattle.place_wrapper.proofs.Binding.{put_there, put_others, same_tables_fitting, stay_fitting, unscanned_free, write_same, write_stays, set_named, set_apart, set_kept}

@@ -2,7 +2,7 @@ use Rattle.std.proofs.Common.{◌≡◌, ◌∙◌, Some, map, option_map, slice
 use Rattle.blob_store.specs.Names.{is_blob_name}
 use Rattle.blob_store.specs.Shelves.{Replaces}
 use Rattle.fdw_api.specs.State.{BoxTable}
-use Rattle.staged_changes.specs.Staged.{change_is, write_is}
+use Rattle.wrapper_parts.specs.Staged.{change_is, write_is}
 use Rattle.place_wrapper.specs.Boxes.{table_at}
 use Rattle.place_wrapper.specs.Forms.{Rewrites}
 use Rattle.place_wrapper.proofs.Options.{some_inj}

@@ -1,4 +1,4 @@
-use Rattle.std.proofs.Common.{refl, true}
+use Rattle.std.proofs.Common.{refl}
 use Rattle.fdw_api.proofs.LiftLemmas.{if_ok}
 use Rattle.fdw_api.proofs.Unpromised.{can_begin, begins}
 use Rattle.probe_wrapper.specs.Vague.{box_of}

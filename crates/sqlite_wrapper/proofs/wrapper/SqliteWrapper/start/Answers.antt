@@ -1,7 +1,7 @@
 use Rattle.std.proofs.Common.{Some, ◌≡◌, ◌∙◌, ◌&&◌, ℕ, true, false, nat_lt, map, refl, sym, subst, slice_index_or, arith}
 use Rattle.med_value.specs.Datum.{Tuple, datum}
 use Rattle.fdw_api.specs.Scan.{Spec, spec_of}
-use Rattle.key_ranges.specs.Ranges.{only_keys}
+use Rattle.wrapper_parts.specs.Ranges.{only_keys}
 use Rattle.sqlite.specs.Held.{state}
 use Rattle.sqlite_tables.specs.Layouts.{layout_at, layout_count}
 use Rattle.sqlite_tables.proofs.Clean.{steady_entries}

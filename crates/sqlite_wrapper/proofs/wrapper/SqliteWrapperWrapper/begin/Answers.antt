@@ -1,4 +1,4 @@
-use Rattle.std.proofs.Common.{◌≡◌, List, false, map, map, true, None, sym, subst, slice_index_or}
+use Rattle.std.proofs.Common.{◌≡◌, List, false, map, true, None, sym, subst, slice_index_or}
 use Rattle.med_value.specs.Datum.{datum}
 use Rattle.med_value.specs.declared.value.ColType.{ColType}
 use Rattle.fdw_api.specs.Scan.{params_fit, spec_of}

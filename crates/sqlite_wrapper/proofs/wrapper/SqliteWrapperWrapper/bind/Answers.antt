@@ -1,7 +1,6 @@
-use Rattle.std.proofs.Common.{◌∙◌, true, sym, ap, subst, length, rules}
-use Rattle.std.proofs.Common.{option_map}
+use Rattle.std.proofs.Common.{◌∙◌, true, sym, ap, subst, length, rules, option_map}
 use Rattle.sqlite.specs.Held.{state}
-use Rattle.staged_changes.specs.Staged.{write_is}
+use Rattle.wrapper_parts.specs.Staged.{write_is}
 use Rattle.sqlite.specs.Effect.{Database}
 use Rattle.sqlite_tables.specs.Layouts.{layout_at}
 use Rattle.sqlite_tables.specs.Tables.{rows_of}

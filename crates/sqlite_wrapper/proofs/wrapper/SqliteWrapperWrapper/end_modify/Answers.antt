@@ -4,10 +4,10 @@ use Rattle.sqlite.specs.Schema.{Schema}
 use Rattle.fdw_api.specs.Calls.{faults_after}
 use Rattle.fdw_api.specs.Writes.{CanClose, Closes, RefusesClose}
 use Rattle.std.proofs.Math.Logic.{∥∥₁_map}
-use Rattle.staged_changes.specs.Staged.{change_is, write_is}
+use Rattle.wrapper_parts.specs.Staged.{change_is, write_is}
 use Rattle.sqlite_tables.proofs.Refused.{both_only}
 use Rattle.sqlite_writes.proofs.Changed.{entries_ordered}
-use Rattle.staged_changes.specs.declared.changes.StagedWrite.{StagedWrite}
+use Rattle.wrapper_parts.specs.declared.changes.StagedWrite.{StagedWrite}
 use Rattle.sqlite_writes.proofs.Named.{none_named}
 use Rattle.sqlite_writes.specs.Writable.{AreApart, IsSureWrite, IsWritable}
 use Rattle.sqlite_wrapper.specs.Changes.{NamesOnce, names_rows, write_fits}

@@ -1,8 +1,7 @@
-use Rattle.std.proofs.Common.{◌∙◌, true, Some, FitsSigned, w64, refl, ap, subst, rules}
+use Rattle.std.proofs.Common.{◌∙◌, true, Some, FitsSigned, w64, refl, ap, subst, rules, option_map}
 use Rattle.std.proofs.lemmas.Int.{to_z-of_z}
-use Rattle.std.proofs.Common.{option_map}
 use Rattle.sqlite.specs.Held.{state}
-use Rattle.staged_changes.specs.Staged.{write_is}
+use Rattle.wrapper_parts.specs.Staged.{write_is}
 use Rattle.sqlite_wrapper.proofs.Kept.{writable_after, apart_after, there_after, counts_after}
 use Rattle.fdw_api.specs.State.{Scan}
 use Rattle.sqlite_tables.specs.Layouts.{layout_at}

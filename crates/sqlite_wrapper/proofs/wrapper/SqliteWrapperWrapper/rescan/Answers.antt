@@ -6,7 +6,7 @@ use Rattle.sqlite_tables.specs.Layouts.{layout_at, layout_count}
 use Rattle.sqlite_tables.proofs.Clean.{clean_sure}
 use Rattle.sqlite_wrapper.specs.declared.scans.KeyScan.{KeyScan}
 use Rattle.sqlite_wrapper.specs.Boxes.{allows, asked_of, is_allowed, scan_is}
-use Rattle.staged_changes.specs.Staged.{write_is}
+use Rattle.wrapper_parts.specs.Staged.{write_is}
 use Rattle.sqlite_wrapper.proofs.Maps.{sets, sets_on}
 use Rattle.sqlite_wrapper.proofs.Kept.{writable_after, apart_after, there_after, counts_after}
 use Rattle.sqlite_wrapper.proofs.Giving.{known_at, there_is, allows_same, breaks_by}

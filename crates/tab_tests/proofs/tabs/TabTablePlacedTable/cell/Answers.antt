@@ -2,7 +2,7 @@ use Rattle.std.proofs.Common.{◌≡◌, ◌<◌, ◌∙◌, ℕ, List, ap, leng
 use Rattle.std.proofs.lemmas.Result.{IfOk-weaker}
 use Rattle.med_value.specs.Datum.{Tuple, cell, datum, tuple}
 use Rattle.med_value.specs.declared.value.Value.{Value}
-use Rattle.kept_rows.proofs.KeptLaws.{rows_length, row_there}
+use Rattle.tab_tests.proofs.KeptLaws.{rows_length, row_there}
 use Rattle.tab_tests.proofs.tabs.TabTablePlacedTable.cell.Goals as goal
 
 pub index-requires : goal.index-requires

@@ -1,5 +1,5 @@
 use Rattle.std.proofs.Common.{◌≡◌, ◌∙◌, sym, length, rules}
-use Rattle.kept_rows.proofs.KeptLaws.{rows_length}
+use Rattle.tab_tests.proofs.KeptLaws.{rows_length}
 use Rattle.tab_tests.proofs.tabs.TabTablePlacedTable.count.Goals as goal
 
 pub returns : goal.returns

@@ -1,6 +1,6 @@
 use Rattle.std.proofs.Common.{◌≡◌, ◌<◌, ℕ, length, subst, rules}
 use Rattle.med_value.specs.Datum.{tuple}
-use Rattle.kept_rows.proofs.KeptLaws.{rows_length, row_there}
+use Rattle.tab_tests.proofs.KeptLaws.{rows_length, row_there}
 use Rattle.tab_tests.proofs.tabs.TabTablePlacedTable.give.Goals as goal
 
 pub index-row-requires : goal.index-row-requires

@@ -3,9 +3,9 @@ use Rattle.std.proofs.lemmas.Result.{err_from_is_err_and}
 use Rattle.med_value.specs.Datum.{tuple}
 use Rattle.fdw_api.specs.Writes.{rows_after}
 use Rattle.fdw_api.specs.declared.interface.Fault.{Fault}
-use Rattle.staged_changes.specs.Staged.{change_is}
+use Rattle.wrapper_parts.specs.Staged.{change_is}
 use Rattle.place_wrapper.specs.Forms.{RefusesChanges}
-use Rattle.kept_rows.specs.Kept.{no_line, as_held}
+use Rattle.tab_tests.specs.Kept.{no_line, as_held}
 use Rattle.tab_tests.specs.Tabs.{text_of}
 use Rattle.tab_tests.specs.TabForms.{tab_form, rows_in}
 use Rattle.tab_tests.proofs.TabReads.{rewrites, refuses_changes}

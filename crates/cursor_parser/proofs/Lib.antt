@@ -1,3 +1,0 @@
-pub mod CursorSound
-pub mod CursorComplete
-pub mod CursorRead

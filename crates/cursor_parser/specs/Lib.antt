@@ -1,3 +1,0 @@
-pub mod CursorGrammar
-pub mod CursorReading
-pub mod CursorCauses

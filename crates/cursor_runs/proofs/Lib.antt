@@ -1,6 +1,0 @@
-mod Named
-mod Replying
-mod Faring
-mod Joined
-mod Opened
-mod Leased

@@ -1,4 +1,0 @@
-pub mod Exchanges
-pub mod Fetching
-pub mod Runs
-pub mod Leases

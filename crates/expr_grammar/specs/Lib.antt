@@ -1,9 +1,0 @@
-pub mod Shapes
-pub mod View
-pub mod ExprReading
-pub mod SymbolView
-pub mod ExprSteps
-pub mod ExprAnswers
-pub mod ExprTerminals
-pub mod ExprGrammar
-pub mod ExprWeight

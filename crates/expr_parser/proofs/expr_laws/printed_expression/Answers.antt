@@ -1,5 +1,0 @@
-use Rattle.expr_writer.proofs.ExprPrints.{printed_has}
-use Rattle.expr_parser.proofs.expr_laws.printed_expression.Goals as goal
-
-pub returns : goal.returns
-returns c = printed_has c.printed_again.ensures c.tokens_can_be_printed.ensures

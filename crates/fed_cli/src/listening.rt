@@ -1,0 +1,169 @@
+//! Connections over TCP.
+ghost use Rattle.std.specs.Prelude.{◌≡◌, ◌<◌, Err, IfErr, is_ok};
+ghost use Rattle.std.specs.Net.Socket.{socket_port};
+ghost use Rattle.fed_stream.specs.Streams.{stream};
+ghost use Rattle.fed_cli.specs.Exits.{TellsText};
+ghost use Rattle.fed_stream.specs.Known.{Known};
+ghost use Rattle.fed_stream.specs.declared.source.GivenUp.{GivenUp};
+ghost use Rattle.fed_cli.specs.Listens.{CallsPort, IsLocal, Listens, listened, port_line};
+ghost use Rattle.med_session.specs.Engine.{IsSound};
+ghost use Rattle.med_session.specs.Shows.{shown};
+
+use crate::turns::{AcceptFault, Connections, Kept, serve_connections};
+use fdw_api::wishes::Wrapper2;
+use fed_stream::{GivenUp, Sink, flush, write_line};
+use itoa::Buffer;
+use med_session::Engine;
+use std::error::Error;
+use std::fmt;
+use std::net::{IpAddr, Ipv4Addr, Net, OpenListener, OpenStream, SocketAddr};
+
+/// Why connections to a port were not all served.
+#[derive(Clone, Copy, Debug, PartialEq, Eq)]
+pub enum ListenFault {
+    /// The program cannot listen on this port.
+    CannotListen(u16),
+    /// The line that says so could not be written.
+    Write,
+    /// No connection could be taken.
+    Accept,
+}
+
+impl fmt::Display for ListenFault {
+    ghost use Rattle.std.specs.Prelude.{Some};
+    ghost use Rattle.fed_cli.specs.Listens.{listen_text};
+
+    ghost output = { λ fault. Some (listen_text fault) };
+
+    fn fmt<W: fmt::Write>(&self, f: &mut fmt::Formatter<W>) -> fmt::Result {
+        match self {
+            ListenFault::CannotListen(port) => write!(f, "cannot listen on port {port}"),
+            ListenFault::Write => f.write_str("write fault"),
+            ListenFault::Accept => f.write_str("accept fault"),
+        }
+    }
+}
+
+impl Error for ListenFault {}
+
+/// The connections to a port. What is taken, and what a connection gives, is the peers' doing: nothing is promised of it.
+#[derive(Drop)]
+pub struct Listening<N: Net> {
+    listener: N::Listener,
+}
+
+impl<N: Net> Listening<N> {
+    /// Listens on this port of 127.0.0.1. Refused where the port is not to be had.
+    pub fn bind(net: &N, port: u16) -> Result<Self, ListenFault>
+        ensures { IfErr result (λ fault. fault ≡ ListenFault.CannotListen port) }
+    {
+        match net.bind(local_address(port)) {
+            Ok(listener) => Ok(Listening { listener }),
+            Err(_) => Err(ListenFault::CannotListen(port)),
+        }
+    }
+}
+
+impl<N: Net> Connections for Listening<N> {
+    type Reader = N::Stream;
+
+    type Writer = N::Stream;
+
+    ghost accepts = { λ _ _ _ _. Unit {0} };
+
+    ghost refuses = { λ _ _. Unit {0} };
+
+    ghost closes = { λ _ _ _ _. Unit {0} };
+
+    fn accept(&mut self) -> Result<(N::Stream, N::Stream), AcceptFault> {
+        let Ok((reader, _)) = self.listener.accept() else {
+            return Err(AcceptFault);
+        };
+        match reader.try_clone() {
+            Ok(writer) => Ok((reader, writer)),
+            Err(_) => Err(AcceptFault),
+        }
+    }
+
+    fn close(&mut self, _reader: N::Stream, _writer: N::Stream) {}
+}
+
+// This port of 127.0.0.1.
+fn local_address(port: u16) -> SocketAddr
+    ensures local { IsLocal result }
+    ensures port { socket_port result ≡ port }
+{
+    SocketAddr::new(IpAddr::V4(Ipv4Addr::new(127, 0, 0, 1)), port)
+}
+
+/// Listens on a port of 127.0.0.1, tells so by the line `fedq: listening on 127.0.0.1:PORT`, and serves so many connections by the
+/// engine, one after the other, as `serve_connections` does.
+///
+/// Of what peers send and get nothing can be said: they are others. Nothing is served where the port is not to be had or the line could
+/// not be written: then a front of it was, and where the output tells its calls one of them failed, or 4,294,967,295 were interrupted.
+pub fn listen_and_serve<B: Wrapper2, V: AllocGlobal + Net, O: Sink, E: Sink>(
+    rt: &V,
+    engine: Engine<B>,
+    port: u16,
+    count: u16,
+    output: &mut O,
+    errors: &mut E,
+) -> Kept<B, ListenFault>
+    requires sound { IsSound (shown B.meaning engine) }
+    requires port { 0 < port }
+    ensures listens { Listens V.Stream.remaining V.Stream.contents (shown B.meaning engine) port count result.came
+        (shown B.meaning result.engine) result.is_told
+        (stream (O.contents output.old) (O.contents output.new)) (stream (E.contents errors.old) (E.contents errors.new)) }
+    ensures sound { IsSound (shown B.meaning result.engine) }
+    ensures writes { result.came ≡ Err ListenFault.Write
+        → Known (O.outlet output.old) (O.outlet output.new) (λ old new. (fault : GivenUp) × CallsPort old new (Err fault)) }
+{
+    let mut listening = match Listening::<V>::bind(rt, port) {
+        Ok(listening) => listening,
+        Err(fault) => {
+            return Kept {
+                came: Err(fault),
+                is_told: true,
+                engine,
+            };
+        }
+    };
+    match tell_port(port, output) {
+        Ok(()) => {}
+        Err(_) => {
+            return Kept {
+                came: Err(ListenFault::Write),
+                is_told: true,
+                engine,
+            };
+        }
+    }
+    let kept = serve_connections(rt.alloc(), engine, &mut listening, count, errors);
+    Kept {
+        came: listened(kept.came),
+        is_told: kept.is_told,
+        engine: kept.engine,
+    }
+}
+
+// Tells the port on standard output, and flushes it. A write or flush that is interrupted is tried again.
+fn tell_port<O: Sink>(port: u16, output: &mut O) -> Result<(), GivenUp>
+    ensures told { TellsText (is_ok result) (stream (O.contents output.old) (O.contents output.new)) (port_line port) }
+    ensures calls { Known (O.outlet output.old) (O.outlet output.new) (λ old new. CallsPort old new result) }
+{
+    let mut digits = Buffer::new();
+    match write_line(output, &["listening on 127.0.0.1:", digits.format(port)]) {
+        Ok(()) => flush(output),
+        Err(fault) => Err(fault),
+    }
+}
+
+// What it came to that the connections to a port were served.
+fn listened(came: Result<(), AcceptFault>) -> Result<(), ListenFault>
+    ensures { result ≡ listened came }
+{
+    match came {
+        Ok(()) => Ok(()),
+        Err(_) => Err(ListenFault::Accept),
+    }
+}

@@ -1,4 +1,0 @@
-pub mod Known
-pub mod Counts
-pub mod Bytes
-pub mod Fronts

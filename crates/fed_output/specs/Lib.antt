@@ -1,5 +1,0 @@
-pub mod Known
-pub mod Inlets
-pub mod Outlets
-pub mod Memory
-pub mod Parts

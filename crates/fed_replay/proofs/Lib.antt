@@ -1,4 +1,0 @@
-pub mod Cuts
-pub mod Done
-pub mod Reached
-pub mod Follows

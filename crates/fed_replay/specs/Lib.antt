@@ -1,3 +1,0 @@
-pub mod Scripts
-pub mod Replays
-pub mod Engines

@@ -1,3 +1,0 @@
-pub mod KeptEngines
-pub mod MoreTurns
-pub mod Heard

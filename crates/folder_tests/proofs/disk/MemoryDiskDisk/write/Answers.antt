@@ -1,7 +1,0 @@
-use Rattle.std.proofs.Common.{rules, refl}
-use Rattle.folder_tests.proofs.DriveLaws.{refused_write}
-use Rattle.folder_tests.specs.Drives.{drive_of}
-use Rattle.folder_tests.proofs.disk.MemoryDiskDisk.write.Goals as goal
-
-pub returns-in-Err : goal.returns-in-Err
-returns-in-Err c = refused_write (drive_of c.args.self.now) _ _ _ c.in-Err.ensures.refused.1 refl refl refl (search rules) c.requires.making.file

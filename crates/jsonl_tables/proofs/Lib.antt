@@ -1,9 +1,0 @@
-pub mod LineLaws
-pub mod ObjectLaws
-pub mod WrittenLaws
-pub mod WholeLaws
-pub mod ReadLaws
-pub mod RewriteLaws
-pub mod ImageLaws
-pub mod CleanLaws
-pub mod FormatLaws

@@ -1,0 +1,226 @@
+//! Tables of JSON lines as tables of rows at places.
+ghost use Rattle.std.specs.Prelude.{◌≡◌, ◌<◌, slice_get, length, IfOk};
+ghost use Rattle.std.specs.List.{list_any};
+ghost use Rattle.med_value.specs.Datum.{datum, tuple, cell};
+ghost use Rattle.fdw_api.specs.Scan.{test_form, pick, shown_cells, spec_of};
+ghost use Rattle.jsonl_wrapper.specs.Wholes.{is_other};
+ghost use Rattle.jsonl_wrapper.specs.Tables.{kinds_in, row_cells};
+ghost use Rattle.jsonl_wrapper.specs.Formats.{answer_on};
+
+use crate::contents::{LinesRead, cell_of_line, read_lines, row_of_line};
+use crate::fields::{copy_fields, fields_of};
+use crate::known::{known_cell, takes_known};
+use crate::lines::{is_image, line_at};
+use crate::made::LinesWritten;
+use crate::rewrite::rewritten;
+use crate::table::JsonTable;
+use fdw_api::interface::{Fault, TableOption};
+use fdw_api::scan::{Agree, Restriction, ScanSpec, Test};
+use med_value::{ColType, ColumnDef, NoMemory, Row, Value};
+use place_wrapper::PlacedTable;
+use std::alloc::Global;
+use wrapper_parts::{RowChange, Sought, takes};
+
+/// The row of the line at a place.
+fn row_at(alloc: Global, table: &JsonTable, at: usize) -> Result<Row, NoMemory>
+    requires { at < length table.now.lines.items }
+    ensures { IfOk result (λ row. tuple row ≡ row_cells table.now at) }
+{
+    row_of_line(
+        alloc,
+        line_at(&table.content, table.lines[at]),
+        &table.fields,
+    )
+}
+
+/// The type of a column, if it is there.
+fn kind_at(table: &JsonTable, column: usize) -> Option<ColType>
+    ensures { result ≡ slice_get (kinds_in table.now) column }
+{
+    if column < table.fields.len() {
+        Some(table.fields[column].kind)
+    } else {
+        None
+    }
+}
+
+/// The cell of a row in a column, NULL where there is no such column. The line is read where that is no column of integers.
+fn cell_at(alloc: Global, table: &JsonTable, at: usize, column: usize) -> Result<Value, NoMemory>
+    requires { at < length table.now.lines.items }
+    ensures { IfOk result (λ v. datum v ≡ cell (row_cells table.now at) column) }
+{
+    if column >= table.fields.len() {
+        return Ok(Value::Null);
+    }
+    if let Some(value) = known_cell(table, at, column) {
+        return Ok(value);
+    }
+    cell_of_line(
+        alloc,
+        line_at(&table.content, table.lines[at]),
+        &table.fields[column],
+    )
+}
+
+/// Whether there is such a column, and it has another type than integer.
+fn is_other(kind: Option<ColType>) -> bool
+    ensures { result ≡ is_other kind }
+{
+    match kind {
+        Some(ColType::Int) => false,
+        Some(ColType::Text) => true,
+        Some(ColType::Bool) => true,
+        None => false,
+    }
+}
+
+/// Whether some of these columns has another type than integer.
+fn has_other(table: &JsonTable, wanted: &[usize]) -> bool
+    ensures { result ≡ list_any (λ column. is_other (slice_get (kinds_in table.now) column)) wanted.now }
+{
+    for column in wanted {
+        if is_other(kind_at(table, *column)) {
+            return true;
+        }
+    }
+    false
+}
+
+/// The cells of a row in these columns.
+fn picked(alloc: Global, table: &JsonTable, at: usize, wanted: &[usize]) -> Result<Row, NoMemory>
+    requires { at < length table.now.lines.items }
+    ensures { IfOk result (λ row. tuple row ≡ pick wanted.now (row_cells table.now at)) }
+{
+    let mut cells = Vec::with_capacity(alloc, wanted.len())?;
+    for column in wanted {
+        cells.push(cell_at(alloc, table, at, *column)?)?;
+    }
+    Ok(Row { cells })
+}
+
+/// A row as a scan shows it: where that is cells of integer columns alone, its line is not read.
+fn shown(alloc: Global, table: &JsonTable, at: usize, spec: &ScanSpec) -> Result<Row, NoMemory>
+    requires { at < length table.now.lines.items }
+    ensures { IfOk result (λ row. tuple row ≡ shown_cells (spec_of spec.now) (row_cells table.now at)) }
+{
+    if spec.agreement.narrow && !has_other(table, &spec.wanted) {
+        return picked(alloc, table, at, &spec.wanted);
+    }
+    let row = row_at(alloc, table, at)?;
+    spec.show(alloc, &row)
+}
+
+/// What is done about a test of a column of this type.
+fn answer_on(kind: Option<ColType>, test: &Test) -> Agree
+    ensures { result ≡ answer_on kind (test_form test.now) }
+{
+    match test {
+        Test::IsNull => Agree::Exact,
+        Test::IsNotNull => Agree::Exact,
+        Test::Compare(_, _) => match kind {
+            Some(ColType::Int) => Agree::Exact,
+            Some(ColType::Text) => Agree::Ignored,
+            Some(ColType::Bool) => Agree::Ignored,
+            None => Agree::Ignored,
+        },
+    }
+}
+
+impl PlacedTable for JsonTable {
+    ghost use Rattle.jsonl_wrapper.specs.Formats.{json_form};
+
+    type Draft = JsonTable;
+
+    ghost form = { json_form };
+
+    ghost drafted = { λ t. t };
+
+    ghost image_of = { λ t. t.content.items };
+
+    fn read(
+        alloc: Global,
+        remote: &str,
+        columns: &[ColumnDef],
+        options: &[TableOption],
+        content: Vec<u8>,
+    ) -> Result<JsonTable, Fault> {
+        let fields = fields_of(alloc, columns, options)?;
+        let LinesRead { spans, wholes } = match read_lines(alloc, &content, &fields) {
+            Ok(read) => read,
+            Err(fault) => return Err(fault),
+        };
+        let remote = remote.to_string(alloc)?;
+        let is_image = is_image(&content, &spans);
+        Ok(JsonTable {
+            remote,
+            fields,
+            content,
+            lines: spans,
+            is_image,
+            wholes,
+        })
+    }
+
+    fn remote(&self) -> &str {
+        self.remote.as_str()
+    }
+
+    fn count(&self) -> usize {
+        self.lines.len()
+    }
+
+    fn answer(&self, restriction: &Restriction) -> Agree {
+        answer_on(kind_at(self, restriction.column), &restriction.test)
+    }
+
+    fn give(
+        &self,
+        alloc: Global,
+        at: usize,
+        spec: &ScanSpec,
+        found: Option<Sought>,
+        params: &[Value],
+    ) -> Result<Option<Row>, NoMemory> {
+        match takes_known(self, at, spec, found, params) {
+            Some(true) => Ok(Some(shown(alloc, self, at, spec)?)),
+            Some(false) => Ok(None),
+            None => {
+                let row = row_at(alloc, self, at)?;
+                if takes(spec, found, params, &row) {
+                    Ok(Some(spec.show(alloc, &row)?))
+                } else {
+                    Ok(None)
+                }
+            }
+        }
+    }
+
+    fn cell(&self, alloc: Global, at: usize, column: usize) -> Result<Value, NoMemory> {
+        cell_at(alloc, self, at, column)
+    }
+
+    fn rewritten(&self, alloc: Global, changes: Vec<RowChange>) -> Result<JsonTable, Fault> {
+        let remote = self.remote.as_str().to_string(alloc)?;
+        let fields = copy_fields(alloc, &self.fields)?;
+        let LinesWritten { image, wholes } = match rewritten(alloc, self, changes) {
+            Ok(made) => made,
+            Err(fault) => return Err(fault),
+        };
+        Ok(JsonTable {
+            remote,
+            fields,
+            content: image.content,
+            lines: image.lines,
+            is_image: true,
+            wholes,
+        })
+    }
+
+    fn image(draft: &JsonTable) -> &[u8] {
+        &draft.content
+    }
+
+    fn into_table(draft: JsonTable) -> JsonTable {
+        draft
+    }
+}

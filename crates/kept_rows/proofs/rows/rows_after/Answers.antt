@@ -1,8 +1,0 @@
-use Rattle.std.proofs.Common.{map, rules}
-use Rattle.staged_changes.specs.Staged.{change_is}
-use Rattle.kept_rows.proofs.KeptLaws.{after_changes}
-use Rattle.kept_rows.proofs.rows.rows_after.Goals as goal
-
-pub returns : goal.returns
-returns c = after_changes c.args.rows.now c.in_ok-after.after.items c.in_ok-fates-2.field-0.fresh.items c.append.new.self.items c.in_ok-fates-2.field-0.fates.items c.in_ok-fates.fates.items (map change_is c.args.changes.items)
-    (search rules) c.in_ok-fates-2.ensures.fates (search rules) (search rules) (search rules)

@@ -1,4 +1,0 @@
-pub mod CanWrites
-pub mod Served
-pub mod Typed
-pub mod Runs

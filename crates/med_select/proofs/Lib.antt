@@ -1,3 +1,0 @@
-pub mod Selections
-pub mod Ready
-pub mod Begins

@@ -1,0 +1,14 @@
+pub mod Values
+pub mod Rows
+pub mod Joined
+pub mod Answers
+pub mod Written
+pub mod Tokens
+pub mod Parts
+pub mod Selections
+pub mod Ready
+pub mod Begins
+pub mod CanWrites
+pub mod Served
+pub mod Typed
+pub mod Runs

@@ -1,0 +1,4 @@
+pub mod Typed
+pub mod Ready
+pub mod ReadyWrites
+pub mod Outcomes

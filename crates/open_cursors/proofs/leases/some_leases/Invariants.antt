@@ -1,7 +1,0 @@
-use Rattle.std.proofs.Common.{◌≡◌, map, drop}
-use Rattle.std.specs.List.{list_any}
-use Rattle.open_cursors.specs.Open.{opened, leases_table}
-use Rattle.open_cursors.proofs.leases.some_leases.Given as goal
-
-abbrev pub invariant-loop-cursor : goal.invariant-loop-cursor
-invariant-loop-cursor l = list_any (leases_table l.table) (map opened l.cursors) ≡ list_any (leases_table l.table) (map opened (drop l.cursor-index l.cursors))

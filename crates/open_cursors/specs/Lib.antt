@@ -1,4 +1,0 @@
-pub mod Open
-pub mod Counted
-pub mod Starting
-pub mod Fetching

@@ -1,3 +1,0 @@
-pub mod QueryKeywords
-pub mod QueryTerminals
-pub mod QueryLabels

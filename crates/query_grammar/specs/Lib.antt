@@ -1,3 +1,0 @@
-pub mod QueryTerminals
-pub mod QueryGrammar
-pub mod QueryCauses

@@ -1,4 +1,0 @@
-pub mod Surveying
-pub mod Opened
-pub mod Columns
-pub mod Singles

@@ -1,0 +1,172 @@
+//! Tables read whole when they are bound: page by page, up to 1,000,000 rows.
+ghost use Rattle.std.specs.Prelude.{◌≡◌, ◌<◌, ◌≤◌, ◌^◌, length, true, false, [], Some, IfOk, IfErr, IfSome, OnOk, Contains};
+ghost use Rattle.std.specs.List.{list_all};
+ghost use Rattle.sqlite.specs.Held.{state};
+ghost use Rattle.med_value.specs.Causes.{phase_of};
+ghost use Rattle.med_value.specs.declared.cause.Cause.TheVariants.{InvalidText};
+ghost use Rattle.med_value.specs.Limits.{row_limit};
+ghost use Rattle.fdw_api.specs.Calls.{not_refused};
+ghost use Rattle.fdw_api.specs.Kinds.{is_of_run};
+ghost use Rattle.sqlite_tables.specs.StoreShapes.{range_of};
+ghost use Rattle.sqlite_tables.specs.Layouts.{layout_at};
+ghost use Rattle.sqlite_tables.specs.Cells.{greatest};
+ghost use Rattle.sqlite_tables.specs.Tables.{IsKnown, IsSure, ReadsOnly, entries_in, rows_of};
+ghost use Rattle.sqlite_tables.specs.Refusing.{OnlyBy};
+ghost use Rattle.sqlite_tables.specs.Surveys.{fits_in, last_key, next_after, IsSeen, causes_in};
+
+use crate::rows::check_row;
+use crate::{Misread, SourceStore, page_between};
+use fdw_api::interface::Fault;
+use med_value::Cause;
+use med_value::limits::ROW_LIMIT;
+use sqlite::{Connection, Row};
+
+// Reads the rows of a page, and answers the key of the last one.
+fn check_rows(table: u64, page: &[Row]) -> Result<Option<i64>, Misread>
+    ensures fit { IfOk result (λ _. list_all (fits_in (layout_at table)) page.now ≡ true) }
+    ensures last { IfOk result (λ last. last ≡ last_key page.now) }
+    ensures stray { IfErr result (λ m. m ≡ Misread.Stray → list_all (fits_in (layout_at table)) page.now ≡ false) }
+{
+    let mut last = None;
+    for row in page {
+        match check_row(table, row) {
+            Err(misread) => return Err(misread),
+            Ok(key) => last = Some(key),
+        }
+    }
+    Ok(last)
+}
+
+/// Where the next page begins, behind a page of so many rows with this last key. Behind a page of fewer than 64 rows there is none.
+pub fn next_after(count: usize, last: Option<i64>) -> Option<i64>
+    ensures { result ≡ next_after count last }
+{
+    match last {
+        None => None,
+        Some(key) => {
+            if count == 64 && key < i64::MAX {
+                Some(key + 1)
+            } else {
+                None
+            }
+        }
+    }
+}
+
+// A page that was read: how many rows it has, and where the next one begins.
+#[derive(Clone, Copy, Debug)]
+struct Surveyed {
+    count: usize,
+    next: Option<i64>,
+}
+
+// What a row that could not be read is to a table that is bound: 22P02 where a cell is not of its column's type.
+fn fault_of_content(misread: Misread) -> Fault
+    ensures stray { misread ≡ Misread.Stray → result ≡ Fault.Refused InvalidText }
+    ensures refused { OnlyBy (λ c. (c ≡ InvalidText) × (misread ≡ Misread.Stray)) result }
+{
+    match misread {
+        Misread::NoMemory => Fault::NoMemory,
+        Misread::NoRow => Fault::Source,
+        Misread::Stray => Fault::Refused(Cause::InvalidText),
+    }
+}
+
+// Reads the page of a table that begins at a key.
+fn survey_page<S: SourceStore>(
+    conn: &mut Connection<S>,
+    table: u64,
+    low: i64,
+) -> Result<Surveyed, Fault>
+    requires idle { conn.old.in_transaction ≡ false }
+    requires known { S.honest ≡ true → ∥ IsKnown conn.old.schema (layout_at table) ∥₁ }
+    ensures seen { S.honest ≡ true
+        → IfOk result (λ s. IsSeen (layout_at table) (entries_in (state S.Store conn.old).now table) (Some low) s.next s.count) }
+    ensures full { IfOk result (λ s. IfSome s.next (λ _. s.count ≡ 64)) }
+    ensures counted { IfOk result (λ s. s.count < 2 ^ 63) }
+    ensures refused { IfErr result (OnlyBy (λ c. (c ≡ InvalidText) × (S.honest ≡ true
+        → list_all (fits_in (layout_at table)) (range_of low greatest (entries_in (state S.Store conn.old).now table)) ≡ false))) }
+    ensures same { S.honest ≡ true → (state S.Store conn.new).now ≡ (state S.Store conn.old).now }
+    ensures sure_seen { IsSure (state S.Store conn.old) (state S.Store conn.new) (layout_at table)
+        → IfOk result (λ s. IsSeen (layout_at table) (entries_in (state S.Store conn.old).now table) (Some low) s.next s.count) }
+    ensures sure_refused { IfErr result (OnlyBy (λ _. IsSure (state S.Store conn.old) (state S.Store conn.new) (layout_at table)
+        → list_all (fits_in (layout_at table)) (range_of low greatest (entries_in (state S.Store conn.old).now table)) ≡ false)) }
+    ensures reads { ReadsOnly (state S.Store conn.old) (state S.Store conn.new) (layout_at table) }
+    ensures idle { conn.new.in_transaction ≡ false }
+{
+    let page = match page_between(conn, table, low, i64::MAX) {
+        Err(fault) => return Err(fault),
+        Ok(page) => page,
+    };
+    let count = page.len();
+    match check_rows(table, &page) {
+        Err(misread) => Err(fault_of_content(misread)),
+        Ok(last) => Ok(Surveyed {
+            count,
+            next: next_after(count, last),
+        }),
+    }
+}
+
+/// Reads a table whole, and answers how many rows it has. It is refused where a cell is not of its column's type (22P02), or where there
+/// are more than 1,000,000 rows (54000).
+pub(crate) fn read_whole<S: SourceStore>(
+    conn: &mut Connection<S>,
+    table: u64,
+) -> Result<usize, Fault>
+    requires idle { conn.old.in_transaction ≡ false }
+    requires known { S.honest ≡ true → ∥ IsKnown conn.old.schema (layout_at table) ∥₁ }
+    ensures ok { S.honest ≡ true → OnOk result (causes_in (layout_at table) (entries_in (state S.Store conn.old).now table) ≡ []) }
+    ensures count { S.honest ≡ true → IfOk result (λ n. n ≡ length (rows_of (state S.Store conn.old).now (layout_at table))) }
+    ensures few { IfOk result (λ n. n ≤ row_limit) }
+    ensures refused { IfErr result (OnlyBy (λ c. (is_of_run (phase_of c) ≡ true)
+        × (S.honest ≡ true → Contains (causes_in (layout_at table) (entries_in (state S.Store conn.old).now table)) c))) }
+    ensures same { S.honest ≡ true → (state S.Store conn.new).now ≡ (state S.Store conn.old).now }
+    ensures sure_ok { IsSure (state S.Store conn.old) (state S.Store conn.new) (layout_at table)
+        → OnOk result (causes_in (layout_at table) (entries_in (state S.Store conn.old).now table) ≡ []) }
+    ensures sure_count { IsSure (state S.Store conn.old) (state S.Store conn.new) (layout_at table)
+        → IfOk result (λ n. n ≡ length (rows_of (state S.Store conn.old).now (layout_at table))) }
+    ensures sure_refused { IfErr result (OnlyBy (λ c. IsSure (state S.Store conn.old) (state S.Store conn.new) (layout_at table)
+        → Contains (causes_in (layout_at table) (entries_in (state S.Store conn.old).now table)) c)) }
+    ensures reads { ReadsOnly (state S.Store conn.old) (state S.Store conn.new) (layout_at table) }
+    ensures idle { conn.new.in_transaction ≡ false }
+{
+    let mut next = Some(i64::MIN);
+    let mut count: usize = 0;
+    while let Some(low) = next {
+        match survey_page(conn, table, low) {
+            Err(fault) => return Err(fault),
+            Ok(page) => {
+                count += page.count;
+                next = page.next;
+            }
+        }
+        if count > ROW_LIMIT {
+            return Err(Fault::Refused(Cause::TooLarge));
+        }
+    }
+    Ok(count)
+}
+
+/// The number of rows of a table whose rows are of its types, and at most 1,000,000. It changes nothing, also where it fails.
+///
+/// A table of which that is not so is told as a failure of the source. The number is told over a store that always returns what was
+/// written, and of each call by itself that is sure (`IsSure`).
+pub fn count_rows<S: SourceStore>(conn: &mut Connection<S>, table: u64) -> Result<usize, Fault>
+    requires idle { conn.old.in_transaction ≡ false }
+    requires known { S.honest ≡ true → ∥ IsKnown conn.old.schema (layout_at table) ∥₁ }
+    ensures count { S.honest ≡ true → IfOk result (λ n. n ≡ length (rows_of (state S.Store conn.old).now (layout_at table))) }
+    ensures few { IfOk result (λ n. n ≤ row_limit) }
+    ensures refused { IfErr result not_refused }
+    ensures same { S.honest ≡ true → (state S.Store conn.new).now ≡ (state S.Store conn.old).now }
+    ensures sure_count { IsSure (state S.Store conn.old) (state S.Store conn.new) (layout_at table)
+        → IfOk result (λ n. n ≡ length (rows_of (state S.Store conn.old).now (layout_at table))) }
+    ensures reads { ReadsOnly (state S.Store conn.old) (state S.Store conn.new) (layout_at table) }
+    ensures idle { conn.new.in_transaction ≡ false }
+{
+    match read_whole(conn, table) {
+        Ok(count) => Ok(count),
+        Err(Fault::NoMemory) => Err(Fault::NoMemory),
+        Err(_) => Err(Fault::Source),
+    }
+}

@@ -1,0 +1,84 @@
+//! Databases in files.
+ghost use Rattle.std.specs.Prelude.{◌≡◌, ℕ, true, false, List, Option, Some, IfSome, IfOk, IfErr};
+ghost use Rattle.sqlite_wal.specs.Recovery.{Image};
+ghost use Rattle.sqlite.specs.Held.{state};
+ghost use Rattle.sqlite_tables.specs.Layouts.{layout_at};
+ghost use Rattle.sqlite_tables.specs.Tables.{IsKnown};
+ghost use Rattle.sqlite_writes.specs.Writable.{AreApart, IsWritable};
+ghost use Rattle.sqlite_writes.specs.Found.{Errors, Follows, IsFoundAt, ShowsAt, ShowsKnown};
+
+use sqlite::{Connection, Error};
+use sqlite_tables::SourceStore;
+
+/// The files of a database, opened and locked, of which nothing was read yet.
+///
+/// `image` is what they hold, where that is known: the bytes of the log and of the database file. `refuses` has the errors that may be told
+/// in place of the database in them.
+pub trait DatabaseFiles: Drop {
+    ghost image: { Self → Option Image };
+
+    ghost refuses: { Self → Errors };
+}
+
+/// What opens the databases of a program: its runtime, or what a test has in its place.
+///
+/// `stands` is what stands at each path as the files of a database, where that is known: a file that is missing has no bytes. `refuses` has
+/// the errors that may be told in place of the database at a path.
+pub trait Databases {
+    /// The files of such a database.
+    type Files: DatabaseFiles;
+
+    /// Where such a database stands.
+    type Store: SourceStore + Drop;
+
+    ghost stands: { Self → List ℕ → Option Image };
+
+    ghost refuses: { Self → List ℕ → Errors };
+
+    /// The files of the database at this path. Those that are missing are made.
+    ///
+    /// It is refused where they cannot be opened.
+    fn open_files(&self, path: &str) -> Result<Self::Files, Error>
+        ensures found { IfSome (stands self.now path.now) (λ image. IfOk result (λ files. Self.Files.DatabaseFiles.image files
+            ≡ Some image)) }
+        ensures told { IfOk result (λ files. Follows (Self.Files.DatabaseFiles.refuses files) (refuses self.now path.now)) }
+        ensures err { IfErr result (refuses self.now path.now) };
+
+    /// The database in these files, in no transaction. Of one whose store always returns what was written each layout's three texts are
+    /// for one table, of no two layouts the same, or are not understood.
+    ///
+    /// It is refused where it cannot be read.
+    fn connect(&self, files: Self::Files) -> Result<Connection<Self::Store>, Error>
+        ensures found { IfOk result (λ conn. ShowsKnown (Self.Files.DatabaseFiles.image files) (state Self.Store.Store conn)) }
+        ensures known { (table : ℕ) → Self.Store.SourceStore.honest ≡ true
+            → IfOk result (λ conn. ∥ IsKnown conn.schema (layout_at table) ∥₁) }
+        ensures writable { (table : ℕ) → Self.Store.SourceStore.honest ≡ true
+            → IfOk result (λ conn. ∥ IsWritable conn.schema table ∥₁) }
+        ensures apart { Self.Store.SourceStore.honest ≡ true → IfOk result (λ conn. AreApart conn.schema) }
+        ensures idle { IfOk result (λ conn. conn.in_transaction ≡ false) }
+        ensures err { IfErr result (Self.Files.DatabaseFiles.refuses files) };
+}
+
+/// The database at this path, in no transaction: that of the files that stand there, where these are known. Of one whose store always
+/// returns what was written that is said with no look at its disk, and each layout's three texts are for one table, of no two layouts the
+/// same, or are not understood.
+///
+/// # Errors
+///
+/// The database cannot be opened or read: the error is the one that was told of its path, or of its files.
+pub fn open_database<V: Databases>(rt: &V, path: &str) -> Result<Connection<V::Store>, Error>
+    ensures file { IfOk result (ShowsAt V.Store.Store (V.stands rt.now) path.now) }
+    ensures there { V.Store.SourceStore.honest ≡ true
+        → IfOk result (λ conn. IsFoundAt (V.stands rt.now) path.now (state V.Store.Store conn).now) }
+    ensures known { (table : ℕ) → V.Store.SourceStore.honest ≡ true → IfOk result (λ conn. ∥ IsKnown conn.schema (layout_at table) ∥₁) }
+    ensures writable { (table : ℕ) → V.Store.SourceStore.honest ≡ true → IfOk result (λ conn. ∥ IsWritable conn.schema table ∥₁) }
+    ensures apart { V.Store.SourceStore.honest ≡ true → IfOk result (λ conn. AreApart conn.schema) }
+    ensures idle { IfOk result (λ conn. conn.in_transaction ≡ false) }
+    ensures err { IfErr result (V.refuses rt.now path.now) }
+{
+    let files = rt.open_files(path)?;
+    let conn = rt.connect(files)?;
+    let _idle = conn.is_autocommit();
+    let _schema = conn.schema();
+    Ok(conn)
+}

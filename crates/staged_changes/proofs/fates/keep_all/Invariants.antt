@@ -1,6 +1,0 @@
-use Rattle.std.proofs.Common.{◌≡◌, replicate}
-use Rattle.staged_changes.specs.declared.fates.Fate.TheVariants.{Keep}
-use Rattle.staged_changes.proofs.fates.keep_all.Given as goal
-
-abbrev pub invariant-loop : goal.invariant-loop
-invariant-loop g l = l.fates.items ≡ replicate l.counter Keep

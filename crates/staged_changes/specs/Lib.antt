@@ -1,2 +1,0 @@
-pub mod Staged
-pub mod Weaving

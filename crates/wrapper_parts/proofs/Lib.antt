@@ -1,0 +1,5 @@
+pub mod Weaves
+pub mod Indexing
+pub mod Taking
+pub mod Skipping
+pub mod RangeLemmas

@@ -1,0 +1,18 @@
+//! What wrappers are made of: the staged changes of a write to a remote table and what they make of its rows, the places of rows by the
+//! value of one column for scans that look for equal parameters, and the ranges of keys that the restrictions of a scan ask for.
+#![tactic(auto)]
+
+pub mod changes;
+pub mod fates;
+pub mod index;
+pub mod law;
+pub mod ranges;
+pub mod sought;
+pub mod tests_of_keys;
+
+pub use changes::{RowChange, StagedWrite, add_change};
+pub use fates::{Fate, keep_all, set_fate};
+pub use index::PlaceIndex;
+pub use ranges::KeyRange;
+pub use sought::{Sought, sought_in, takes, value_at};
+pub use tests_of_keys::{answers_for, range_of};

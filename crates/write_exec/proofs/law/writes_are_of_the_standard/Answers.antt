@@ -1,5 +1,0 @@
-use Rattle.write_exec.proofs.WrittenRows.{as_written, rows_written}
-use Rattle.write_exec.proofs.law.writes_are_of_the_standard.Goals as goal
-
-pub returns : goal.returns
-returns c = record { changes = as_written; rows = rows_written }

@@ -1,5 +1,0 @@
-pub mod Rising
-pub mod Reading
-pub mod Staging
-pub mod Writing
-pub mod Fitting

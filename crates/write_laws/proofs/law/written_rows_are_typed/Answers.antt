@@ -1,5 +1,0 @@
-use Rattle.write_laws.proofs.Written.{written_typed}
-use Rattle.write_laws.proofs.law.written_rows_are_typed.Goals as goal
-
-pub returns : goal.returns
-returns c = λ o t db answer none clean given. written_typed o t db answer none clean given

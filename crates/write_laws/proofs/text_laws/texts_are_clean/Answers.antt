@@ -1,5 +1,0 @@
-use Rattle.write_laws.proofs.Parts.{text_clean}
-use Rattle.write_laws.proofs.text_laws.texts_are_clean.Goals as goal
-
-pub returns : goal.returns
-returns c = λ text w has. text_clean text w has

@@ -1,6 +1,0 @@
-use Rattle.std.proofs.Common.{◌≡◌, map, string_bytes, drop}
-use Rattle.med_catalog.specs.Options.{repeats}
-use Rattle.write_parts.proofs.columns.check_once.Given as goal
-
-abbrev pub invariant-loop-place : goal.invariant-loop-place
-invariant-loop-place l = repeats (map string_bytes l.names) ≡ repeats (map string_bytes (drop l.place l.names))

@@ -1,8 +1,0 @@
-use Rattle.std.proofs.Common.{◌≡◌, map, drop}
-use Rattle.med_value.specs.Column.{column_of}
-use Rattle.write_parts.specs.Typing.{cells_causes}
-use Rattle.write_parts.proofs.kinds.check_cells.Given as goal
-
-abbrev pub invariant-loop-place : goal.invariant-loop-place
-invariant-loop-place l =
-    cells_causes (map column_of l.columns) l.given ≡ cells_causes (map column_of (drop l.place l.columns)) (drop l.place l.given)

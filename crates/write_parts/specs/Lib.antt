@@ -1,4 +1,0 @@
-pub mod Meaning
-pub mod Naming
-pub mod Typing
-pub mod Asking
