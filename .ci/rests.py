@@ -2,7 +2,8 @@
 
 It rests on the edit; on the function that it changes; on the heads, with their contracts, of what that names and of what the traits of its types may run;
 on the types, constants and imports that it names; on its stored proof; and on the files of specs/ and proofs/ that any of these use. An edit that changes
-no body of one function rests on all files of its crate. What stands in other crates is in no sum, nor the kit.
+no body of one function rests on all files of its crate. What stands in other crates is in no sum, nor the kit: of what is imported from there the names
+count, and not the modules that pass them on.
 """
 import functools, glob, hashlib, os, re
 
@@ -24,9 +25,12 @@ def above(text, at):
     return re.search(r"(?:^(?! *//)[^\n]*[^{};\n]\n)*\Z", text[:at], re.M).start()
 
 def end_of(text, found, opens):
-    """Where the item ends that begins there: of a function where its body opens, and else where the line that it stands on closes it, or one behind."""
-    end = re.compile(rf"(?:;|\{{|\}})$|^{found[1]}[\]}})]", re.M) if opens else re.compile(rf"(?<=[;}}])$|^{found[1]}[\]}})][^\n]*$", re.M)
-    first = end.search(text, found.end())
+    """Where the item ends that begins there: of a function where its body opens, behind all its clauses, or at its semicolon; and else where the line that it
+    stands on closes it, or one behind."""
+    if opens:
+        first = re.compile(rf"^{found[1]}(?:\S[^\n]*)?\{{$|;$", re.M).search(text, found.start())
+    else:
+        first = re.compile(rf"(?<=[;}}])$|^{found[1]}[\]}})][^\n]*$", re.M).search(text, found.end())
     return first.end() if first else len(text)
 
 class Texts:
@@ -38,7 +42,8 @@ class Texts:
         self.files = {}
         for it in files:
             with open(it, encoding="utf-8") as file:
-                self.files[os.path.relpath(it, folder)] = bare(file.read())
+                text = bare(file.read())
+            self.files[os.path.relpath(it, folder)] = text if it.endswith(".rt") else self.by_name(text)
         self.heads, self.items, self.runs = {}, {}, {}
         for path, text in self.files.items():
             if path.endswith(".rt"):
@@ -54,6 +59,15 @@ class Texts:
             heads = [block[0].partition("{")[0], *(block[0][it.start() : end_of(block[0], it, True)] for it in HEAD.finditer(block[0]))]
             for word in WORD.findall(block[1]):
                 self.runs.setdefault(word, []).append((path, "\n".join(heads)))
+
+    def by_name(self, text):
+        """A text of antt with the names that it imports of other crates at its end, in the place of the lines that import them."""
+        others = [it for it in ANTT_USE.finditer(text) if not it[1].startswith(f"Rattle.{self.name}.")]
+        for it in reversed(others):
+            text = text[: it.start()] + text[it.end() + 1 :]
+        # (a module that is imported whole is named by its path, or by the name that it is given)
+        leaves = [re.sub(r"\s+", " ", it[1]).partition("{")[2].rstrip("} ") or it[1] for it in others]
+        return text + "".join(f"use {it}\n" for it in sorted({name.strip() for line in leaves for name in line.split(",") if name.strip()}))
 
     def file_of(self, part, words):
         """The file of specs/ or proofs/ that a path of names leads to or into, if it is one of the crate's."""
@@ -98,7 +112,8 @@ class Texts:
             names = [it.strip(" }") for it in leaves.split(",") if "◌" in it or {*WORD.findall(it)} & said]
             if not leaves and {*WORD.findall(way)[-1:]} & said:
                 names = [""]
-            found |= {(f"{kind} {path}", f"{way}{it}") for it in names}
+            is_others = kind == "ghost" and leaves and not way.startswith(f"Rattle.{self.name}.")
+            found |= {(f"{kind} {path}", it if is_others else f"{way}{it}") for it in names}
             of = names and re.match(rf"Rattle\.{self.name}\.(specs|proofs)\.(.*)", way)
             files |= {self.file_of(of[1], WORD.findall(of[2]))} - {None} if of else set()
         return found, files

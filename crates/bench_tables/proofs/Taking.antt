@@ -1,13 +1,10 @@
 -- A list takes each table that the catalogue lets pass.
 use Rattle.std.proofs.Common.{◌≡◌, arith, Bool, true, false, List, [], ◌++◌, refl, ap, ◌∙◌}
-use Rattle.fdw_api.specs.Kinds.{Column, OptionForm}
-use Rattle.fdw_api.specs.State.{BoxState}
+use Rattle.fdw_api.specs.Prelude.{Column, OptionForm, BoxState}
 use Rattle.med_syntax.specs.DdlTree.{TableTree}
 use Rattle.med_value.specs.declared.cause.Cause.{Cause}
 use Rattle.med_value.specs.declared.cause.Cause.TheVariants.{InvalidOptionName}
-use Rattle.med_catalog.specs.DdlCauses.{CauseRow, Stands, are_options_unknown, create_table_rows}
-use Rattle.med_catalog.specs.Objects.{Objects}
-use Rattle.med_catalog.specs.Options.{table_settings, column_settings}
+use Rattle.med_catalog.specs.Prelude.{CauseRow, Stands, are_options_unknown, create_table_rows, Objects, table_settings, column_settings}
 use Rattle.med_catalog.specs.declared.kind.SourceKind.TheVariants.{List as Lists}
 use Rattle.med_world.specs.Engine.{TakesAs}
 

@@ -2,10 +2,7 @@
 use Rattle.std.specs.Prelude.{◌≡◌, ℕ, List, [], ◌∷◌, codes}
 use Rattle.fdw_api.specs.State.{BoxState}
 use Rattle.med_catalog.specs.declared.kind.SourceKind.TheVariants as kinds
-use Rattle.sql_meaning.specs.Requests.{AskedLine, opening, sql, bye}
-use Rattle.sql_meaning.specs.Replies.{Reply, reply_text}
-use Rattle.sql_meaning.specs.Steps.{Trouble, Step}
-use Rattle.sql_meaning.specs.World.{World, standing, empty_world, with_source}
+use Rattle.sql_meaning.specs.Prelude.{AskedLine, opening, sql, bye, Reply, reply_text, Trouble, Step, World, standing, empty_world, with_source}
 use Rattle.list_wrapper.specs.Lists.{IsNewList}
 use Rattle.bench_tables.specs.Tables.{bench_list}
 

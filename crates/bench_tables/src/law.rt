@@ -1,7 +1,6 @@
 //! The law that lists may be sources of engines: the contract of a function that does nothing.
 ghost use Rattle.std.specs.Prelude.{◌≡◌, [], List};
-ghost use Rattle.fdw_api.specs.Kinds.{Column};
-ghost use Rattle.fdw_api.specs.State.{BoxState};
+ghost use Rattle.fdw_api.specs.Prelude.{Column, BoxState};
 ghost use Rattle.med_catalog.specs.declared.kind.SourceKind.TheVariants.{List as Lists};
 ghost use Rattle.med_session.specs.Engine.{TakesAs};
 

@@ -1,9 +1,6 @@
 //! An engine over the tables that are measured.
 ghost use Rattle.std.specs.Prelude.{IfOk, OnOk};
-ghost use Rattle.med_session.specs.Asking.{asked};
-ghost use Rattle.med_session.specs.World.{World};
-ghost use Rattle.med_session.specs.Engine.{IsSound, Agrees};
-ghost use Rattle.med_session.specs.Shows.{shown};
+ghost use Rattle.med_session.specs.Prelude.{asked, World, IsSound, Agrees, shown};
 ghost use Rattle.list_wrapper.specs.ListBoxes.{box_of};
 ghost use Rattle.bench_tables.specs.Setup.{Answers, AnswersAll, HasBench, exchange, set_up};
 

@@ -1,8 +1,7 @@
 -- The parts of a list of expressions, one after the other.
 use Rattle.std.proofs.Common.{◌≡◌, ℕ, suc, ◌+◌, ◌<◌, ◌≤◌, List, ◌∷◌, length, drop, get_or, sym, ap, add-one, drop-cons, arith}
 use Rattle.med_syntax.specs.declared.expr.Expr.{Expr}
-use Rattle.med_syntax.specs.ExprTree.{more, highest}
-use Rattle.med_syntax.specs.ExprView.{expr_tree, expr_trees}
+use Rattle.med_syntax.specs.Prelude.{more, highest, expr_tree, expr_trees}
 
 -- the element at a place is the first of the rest
 pub drop_read : {X : Type 0} (xs : List X) (i : ℕ) (x : X) → i < length xs → x ≡ get_or xs i x → drop i xs ≡ x ∷ drop (i + 1) xs

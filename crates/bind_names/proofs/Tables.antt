@@ -3,8 +3,7 @@ use Rattle.std.proofs.Common.{◌≡◌, ℕ, suc, ◌+◌, ◌<◌, true, drop,
 use Rattle.std.specs.Option.{option_and_then}
 use Rattle.std.proofs.lemmas.Option.{slice_get_read, slice_get-map}
 use Rattle.med_value.specs.Column.{column_of}
-use Rattle.med_syntax.specs.Tree.{Name}
-use Rattle.med_syntax.specs.QueryTree.{EntryTree}
+use Rattle.med_syntax.specs.Prelude.{Name, EntryTree}
 use Rattle.bind_names.specs.Scope.{TableShape, table_shape, place_from, place_named, entry_columns}
 use Rattle.bind_names.specs.declared.table.TableView.{TableView}
 use Rattle.bind_names.proofs.Parts.{drop_read}

@@ -6,9 +6,8 @@ use Rattle.med_value.specs.declared.value.ColType.TheVariants.{Int, Text}
 use Rattle.med_value.specs.declared.order.Comparison.TheVariants.{Below}
 use Rattle.med_value.specs.declared.operators.Operation.TheVariants.{Add}
 use Rattle.med_value.specs.declared.cause.Cause.TheVariants.{InvalidColumnReference, AmbiguousColumn, UndefinedTable}
-use Rattle.med_syntax.specs.Tree.{Name}
+use Rattle.med_syntax.specs.Prelude.{Name, ItemTree, value, KeyTree, rows, CoreTree, SelectTree}
 use Rattle.med_syntax.specs.ExprTree.{ExprTree, num, column as written, compare, binary}
-use Rattle.med_syntax.specs.QueryTree.{ItemTree, value, KeyTree, rows, CoreTree, SelectTree}
 use Rattle.tri_expr.specs.Tree.{column}
 use Rattle.med_query.specs.Form.{CoreForm}
 use Rattle.bind_names.specs.Scope.{TableShape}

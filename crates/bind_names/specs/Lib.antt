@@ -4,3 +4,4 @@ pub mod Naming
 pub mod Scope
 pub mod Seen
 pub mod Telling
+pub mod Prelude

@@ -2,20 +2,16 @@
 use Rattle.std.specs.Prelude.{ℕ, suc, ◌+◌, ◌-◌, ℤ, pos, neg_ℤ, min, Bool, true, false, not, ◌||◌, List, [], ◌∷◌, ◌++◌, length, map, filter, flat_map, drop, Option, Some, None, unwrap_or, codes, bytes_eq, if◌then◌else◌, slice_index_or}
 use Rattle.std.specs.Option.{is_some}
 use Rattle.std.specs.List.{list_any}
-use Rattle.med_value.specs.Column.{Column}
-use Rattle.med_value.specs.Datum.{NoValue, Whole, Chars, Logic}
-use Rattle.med_syntax.specs.Tree.{Name}
+use Rattle.med_value.specs.Prelude.{Column, NoValue, Whole, Chars, Logic}
+use Rattle.med_syntax.specs.Prelude.{Name, ExprTree, ExprTrees}
 use Rattle.med_syntax.specs.declared.expr.Joint.{Joint}
 use Rattle.med_syntax.specs.declared.expr.Joint.TheVariants.{Or, And}
-use Rattle.med_syntax.specs.ExprTree.{ExprTree, ExprTrees}
 use Rattle.med_syntax.specs.ExprTree as w
 use Rattle.tri_expr.specs.declared.expr.SetFunction.{SetFunction}
 use Rattle.tri_expr.specs.declared.expr.SetFunction.TheVariants.{Count, Sum, Min, Max}
-use Rattle.med_query.specs.Query.{Direction}
-use Rattle.tri_expr.specs.TreeParts.{arguments_in}
-use Rattle.med_query.specs.Form.{JoinForm, cross_form, inner_form, left_form, ChainForm, GroupForm, CoreForm, Form}
+use Rattle.med_query.specs.Prelude.{Direction, JoinForm, cross_form, inner_form, left_form, ChainForm, GroupForm, CoreForm, Form}
+use Rattle.tri_expr.specs.Prelude.{arguments_in, Tree, Trees, conjunct_trees, column, literal, compare, compute, negate, all_of, some_of, opposite, asks, between, within, matches, parenthesised, count_rows, aggregate, none, part}
 use Rattle.bind_names.specs.Aggregates.{has_aggregate}
-use Rattle.tri_expr.specs.Tree.{Tree, Trees, conjunct_trees, column, literal, compare, compute, negate, all_of, some_of, opposite, asks, between, within, matches, parenthesised, count_rows, aggregate, none, part}
 use Rattle.med_syntax.specs.QueryTree.{ItemTree, all, all_of as all_of_entry, value, JoinTree, inner_join, left_join, cross_join, ChainTree, GroupTree, KeyTree, LimitTree, no_limit, rows, CoreTree, SelectTree, cores_of, StatementTree, select}
 use Rattle.bind_names.specs.Scope.{TableShape, Scope, is_meant, candidates, joined_entry, chain_entries, entries_of, entry_columns, entry_shape, from_scope, query_places}
 

@@ -3,11 +3,9 @@ use Rattle.std.specs.Prelude.{ℕ, nat_le, Bool, true, not, ◌&&◌, List, [], 
 use Rattle.std.specs.List.{list_any, list_all}
 use Rattle.med_value.specs.declared.cause.Cause.{Cause}
 use Rattle.med_value.specs.declared.cause.Cause.TheVariants.{UndefinedTable, UndefinedColumn, AmbiguousColumn, DuplicateAlias, InvalidColumnReference, MisplacedName}
-use Rattle.med_syntax.specs.Tree.{Name}
-use Rattle.med_syntax.specs.ExprTree.{ExprTree, ExprTrees, num, negative, text, truth, null, column, call_all, call, paren, minus, binary, between, among, like, compare, tested, negation, chain, none, more}
+use Rattle.med_syntax.specs.Prelude.{Name, ExprTree, ExprTrees, num, negative, text, truth, null, column, call_all, call, paren, minus, binary, between, among, like, compare, tested, negation, chain, none, more}
 use Rattle.med_syntax.specs.QueryTree.{ItemTree, all, all_of, value, EntryTree, JoinTree, inner_join, left_join, cross_join, ChainTree, GroupTree, KeyTree, CoreTree, SelectTree, cores_of, StatementTree, select}
-use Rattle.tri_expr.specs.Tree.{Tree}
-use Rattle.tri_expr.specs.TreeParts.{same_tree}
+use Rattle.tri_expr.specs.Prelude.{Tree, same_tree}
 use Rattle.bind_names.specs.Scope.{TableShape, Scope, has_entry, candidates, exposed_name, entries_of, query_entries, is_known, entry_shape, from_scope}
 use Rattle.bind_names.specs.Meaning.{Output, SortKey, position, output_name, expression, is_named, sort_key, places_named, resolved, with_join, is_empty, core_outputs}
 

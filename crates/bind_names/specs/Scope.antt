@@ -4,8 +4,7 @@ use Rattle.std.specs.Option.{option_and_then, is_some}
 use Rattle.std.specs.List.{list_any}
 use Rattle.med_value.specs.Column.{Column, column_of}
 use Rattle.med_value.specs.declared.value.ColType.{ColType}
-use Rattle.med_syntax.specs.Tree.{Name}
-use Rattle.med_syntax.specs.QueryTree.{EntryTree, JoinTree, inner_join, left_join, cross_join, ChainTree, CoreTree, SelectTree, cores_of}
+use Rattle.med_syntax.specs.Prelude.{Name, EntryTree, JoinTree, inner_join, left_join, cross_join, ChainTree, CoreTree, SelectTree, cores_of}
 use Rattle.bind_names.specs.declared.table.TableView.{TableView}
 use Rattle.bind_names.specs.declared.scope.Visible.{Visible}
 

@@ -2,9 +2,7 @@
 use Rattle.std.specs.Prelude.{◌≡◌, List, [], map, slice_get, Option, Some, None, Result}
 use Rattle.std.specs.Borrow.{Bor}
 use Rattle.med_value.specs.declared.cause.Cause.{Cause}
-use Rattle.med_syntax.specs.Tree.{Name}
-use Rattle.med_syntax.specs.QueryTree.{EntryTree}
-use Rattle.med_syntax.specs.QueryView.{entry_tree}
+use Rattle.med_syntax.specs.Prelude.{Name, EntryTree, entry_tree}
 use Rattle.med_syntax.specs.declared.statement.Entry.{Entry}
 use Rattle.bind_names.specs.Scope.{table_shape, place_named}
 use Rattle.bind_names.specs.declared.table.TableView.{TableView}

@@ -14,8 +14,7 @@ crate::proofs::Tables::columns_missing, crate::proofs::Tables::columns_found, cr
 ghost use Rattle.std.specs.Prelude.{◌≡◌, ◌∷◌, [], map, flat_map, bytes_eq};
 ghost use Rattle.std.specs.List.{list_any};
 ghost use Rattle.med_value.specs.Column.{column_of};
-ghost use Rattle.med_syntax.specs.QueryView.{entry_tree, join_tree, chain_tree, core_tree, select_tree};
-ghost use Rattle.med_syntax.specs.QueryTree.{CoreTree};
+ghost use Rattle.med_syntax.specs.Prelude.{entry_tree, join_tree, chain_tree, core_tree, select_tree, CoreTree};
 ghost use Rattle.bind_names.specs.Scope as spec;
 ghost use Rattle.bind_names.specs.Scope.{table_shape, visible, entry_shape, entry_columns, chain_entries, from_scope};
 ghost use Rattle.bind_names.specs.Naming.{alias_causes};

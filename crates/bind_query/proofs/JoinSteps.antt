@@ -3,15 +3,11 @@ use Rattle.std.proofs.Common.{◌≡◌, ℕ, suc, ◌+◌, ◌<◌, List, [], �
 use Rattle.std.proofs.lemmas.List.{map-append, length-map}
 use Rattle.med_value.specs.Column.{column_of}
 use Rattle.med_value.specs.declared.cause.Cause.{Cause}
-use Rattle.med_syntax.specs.QueryTree.{EntryTree}
-use Rattle.med_syntax.specs.QueryView.{join_tree, chain_tree}
+use Rattle.med_syntax.specs.Prelude.{EntryTree, join_tree, chain_tree}
 use Rattle.med_syntax.specs.declared.statement.Chain.{Chain}
 use Rattle.med_syntax.specs.declared.statement.Join.{Join}
 use Rattle.med_query.specs.Form.{JoinForm, ChainForm}
-use Rattle.bind_names.specs.Scope.{TableShape, Scope, visible, scope_of, entry_shape, entry_columns, joined_entry, chain_entries}
-use Rattle.bind_names.specs.Naming.{on_name_causes, joins_name_causes}
-use Rattle.bind_names.specs.Meaning.{with_join, join_meant, joins_meant, chain_meant, chains_meant}
-use Rattle.bind_names.specs.Telling.{TellsCause}
+use Rattle.bind_names.specs.Prelude.{TableShape, Scope, visible, scope_of, entry_shape, entry_columns, joined_entry, chain_entries, on_name_causes, joins_name_causes, with_join, join_meant, joins_meant, chain_meant, chains_meant, TellsCause}
 use Rattle.bind_names.specs.declared.scope.Visible.{Visible}
 use Rattle.bind_names.proofs.Causes.{tells_first, next_causes}
 use Rattle.bind_names.proofs.Added.{added_after}

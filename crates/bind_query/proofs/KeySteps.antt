@@ -4,23 +4,16 @@ use Rattle.std.specs.List.{list_all}
 use Rattle.std.proofs.lemmas.Bool.{le-leb, leb-true}
 use Rattle.std.proofs.lemmas.List.{drop-map, length-map}
 use Rattle.med_value.specs.declared.cause.Cause.TheVariants.{InvalidColumnReference, AmbiguousColumn}
-use Rattle.med_syntax.specs.Tree.{Name}
+use Rattle.med_syntax.specs.Prelude.{Name, ExprTree, null, step, expr_tree, core_tree, select_tree}
 use Rattle.med_syntax.specs.declared.expr.Expr.{Expr}
 use Rattle.med_syntax.specs.declared.expr.Expr.TheVariants.{Null, rolls-Null}
 use Rattle.med_syntax.specs.declared.expr.Expr.TheFolds.{fold-roll-Expr}
 use Rattle.med_syntax.specs.declared.expr.Expr.TheOpen as layer
-use Rattle.med_syntax.specs.ExprTree.{ExprTree, null}
-use Rattle.med_syntax.specs.ExprView.{step, expr_tree}
-use Rattle.tri_expr.specs.Tree.{Tree, tree, literal}
+use Rattle.tri_expr.specs.Prelude.{Tree, tree, literal, bare, same_tree}
 use Rattle.tri_expr.specs.declared.expr.Expr.{Expr as Resolved}
-use Rattle.tri_expr.specs.TreeParts.{bare, same_tree}
-use Rattle.bind_names.specs.Naming.{position_causes, output_name_causes, are_same, twice_causes, output_key_causes, key_name_causes, place_name_causes}
-use Rattle.bind_names.specs.Meaning.{Output, first_value, is_named, one_place, sort_key, output_name, expression, places_named, output_place, item_at, is_empty, key_meant, key_place, by_keys, by_places}
-use Rattle.bind_names.specs.Scope.{Scope}
-use Rattle.bind_names.specs.Telling.{Means, with_places}
+use Rattle.bind_names.specs.Prelude.{position_causes, output_name_causes, are_same, twice_causes, output_key_causes, key_name_causes, place_name_causes, Output, first_value, is_named, one_place, sort_key, output_name, expression, places_named, output_place, item_at, is_empty, key_meant, key_place, by_keys, by_places, Scope, Means, with_places}
 use Rattle.med_value.specs.declared.cause.Cause.{Cause}
 use Rattle.med_syntax.specs.declared.statement.Select.{Select}
-use Rattle.med_syntax.specs.QueryView.{core_tree, select_tree}
 use Rattle.bind_query.specs.Resolving.{sorting_form, SortsRows}
 use Rattle.bind_query.specs.declared.sorting.Sorting.{Sorting}
 use Rattle.bind_names.specs.declared.scope.FoundPlaces.TheVariants.{Nothing, One, Several}

@@ -3,8 +3,7 @@ use Rattle.std.proofs.Common.{◌≡◌, ℕ, ◌+◌, ◌<◌, List, [], ◌++�
 use Rattle.std.proofs.lemmas.List.{length-map}
 use Rattle.med_value.specs.Column.{column_of}
 use Rattle.med_syntax.specs.Tree.{Name}
-use Rattle.bind_names.specs.Scope.{scope_of, visible, is_meant}
-use Rattle.bind_names.specs.Meaning.{Output, columns_from, starred}
+use Rattle.bind_names.specs.Prelude.{scope_of, visible, is_meant, Output, columns_from, starred}
 use Rattle.bind_names.specs.declared.scope.Visible.{Visible}
 use Rattle.bind_names.proofs.Added.{added_after}
 use Rattle.bind_names.proofs.Parts.{drop_read}

@@ -1,26 +1,21 @@
 -- What resolving the names of a part of a query answers: what it means, or a cause of names that stands against it.
 use Rattle.std.specs.Prelude.{Bool, ℕ, List, [], ◌∷◌, ◌++◌, map, filter, flat_map, suc, Option, option_map, Result, Vec}
 use Rattle.med_value.specs.declared.cause.Cause.{Cause}
-use Rattle.med_syntax.specs.Tree.{Name}
-use Rattle.med_syntax.specs.ExprTree.{ExprTree, ExprTrees}
-use Rattle.med_syntax.specs.QueryTree.{ItemTree, EntryTree, JoinTree, ChainTree, GroupTree, KeyTree, CoreTree, SelectTree}
+use Rattle.med_syntax.specs.Prelude.{Name, ExprTree, ExprTrees, ItemTree, EntryTree, JoinTree, ChainTree, GroupTree, KeyTree, CoreTree, SelectTree, expr_tree}
 use Rattle.tri_expr.specs.declared.expr.Expr.{Expr}
 use Rattle.tri_expr.specs.Tree.{Tree, part, tree, trees}
 use Rattle.med_query.specs.declared.select.Join.{Join}
 use Rattle.med_query.specs.declared.select.JoinChain.{JoinChain}
 use Rattle.med_query.specs.declared.select.Grouping.{Grouping}
 use Rattle.med_query.specs.Form.{join_form, chain_form, group_form}
-use Rattle.bind_names.specs.Scope.{TableShape, Scope, entry_shape}
-use Rattle.bind_names.specs.Naming.{name_causes, name_causes_of_all, condition_name_causes, on_name_causes, joins_name_causes, chain_name_causes, item_name_causes, sort_key_causes, key_name_causes, place_name_causes, order_causes_in, group_name_causes}
+use Rattle.bind_names.specs.Prelude.{TableShape, Scope, entry_shape, name_causes, name_causes_of_all, condition_name_causes, on_name_causes, joins_name_causes, chain_name_causes, item_name_causes, sort_key_causes, key_name_causes, place_name_causes, order_causes_in, group_name_causes, Means, Adds}
 use Rattle.bind_names.specs.Meaning.{resolved, resolved_all, conditions_of, join_meant, joins_meant, chain_meant, chains_meant, Output, outputs_of, item_outputs, is_named, SortKey, position, output_name, expression, sorted_by, key_meant, key_place, Sorting as SortingForm, by_keys, by_places, sorting_in, group_place, groups_rows, group_of}
-use Rattle.bind_names.specs.Telling.{Means, Adds}
 use Rattle.bind_query.specs.declared.outputs.Shown.{Shown}
 use Rattle.bind_query.specs.declared.keys.KeyForm.{KeyForm}
 use Rattle.bind_query.specs.declared.keys.KeyForm.TheVariants.{Position, Named, Expressed}
 use Rattle.bind_query.specs.declared.sorting.Sorting.{Sorting}
 use Rattle.bind_query.specs.declared.sorting.Sorting.TheVariants.{Keys, Places}
 use Rattle.bind_query.specs.Shown.{output_of}
-use Rattle.med_syntax.specs.ExprView.{expr_tree}
 
 -- ---- expressions
 

@@ -7,11 +7,8 @@ use Rattle.tri_expr.specs.declared.expr.Expr.{Expr}
 use Rattle.tri_expr.specs.Tree.{tree}
 use Rattle.med_query.specs.declared.select.Join.{Join}
 use Rattle.med_query.specs.Form.{join_form}
-use Rattle.bind_names.specs.Scope.{TableShape, scope_of, entry_columns, joined_entry}
+use Rattle.bind_names.specs.Prelude.{TableShape, scope_of, entry_columns, joined_entry, on_name_causes, Output, first_value, with_join, join_meant, TellsCause}
 use Rattle.bind_names.specs.declared.scope.Visible.{Visible}
-use Rattle.bind_names.specs.Naming.{on_name_causes}
-use Rattle.bind_names.specs.Meaning.{Output, first_value, with_join, join_meant}
-use Rattle.bind_names.specs.Telling.{TellsCause}
 
 -- one join more behind the entry of a number, and its entry in view
 abbrev pub AddsJoin : List TableShape → ℕ → JoinTree → List Visible → List Visible → List Join → List Join → Result ℕ Cause → Type 0

@@ -1,14 +1,12 @@
 //! Groups.
 #![tactic(auto, using(bind_names::proofs::Causes::tells_memory, bind_names::proofs::Added::added_end))]
 
-ghost use Rattle.bind_names.specs.Meaning.{groups_rows};
-ghost use Rattle.bind_names.specs.Telling.{Means, Adds};
+ghost use Rattle.bind_names.specs.Prelude.{groups_rows, Means, Adds};
 ghost use Rattle.bind_query.specs.Resolving.{GroupsBy, shown_trees};
 ghost use Rattle.med_syntax.specs.QueryView.{core_tree};
 ghost use Rattle.std.specs.Option.{is_some};
 ghost use Rattle.std.specs.Prelude.{◌≡◌, ◌++◌, [], ◌||◌, map, flat_map};
-ghost use Rattle.tri_expr.specs.Tree.{tree};
-ghost use Rattle.tri_expr.specs.TreeParts.{arguments_in};
+ghost use Rattle.tri_expr.specs.Prelude.{tree, arguments_in};
 
 use bind_names::any_has_aggregate;
 use med_query::Grouping;

@@ -7,12 +7,10 @@ bind_names::proofs::Causes::tells_memory, bind_names::proofs::Causes::tells_one,
 // no cause in either part
 bind_names::proofs::Causes::none_of_two))]
 
-ghost use Rattle.bind_names.specs.Scope.{scope_of, shapes_of, chain_entries};
-ghost use Rattle.bind_names.specs.Telling.{Means};
+ghost use Rattle.bind_names.specs.Prelude.{scope_of, shapes_of, chain_entries, Means};
 ghost use Rattle.bind_query.specs.Resolving.{ResolvesCondition, ResolvesJoin, ResolvesJoins, ResolvesChain, ResolvesChains};
 ghost use Rattle.bind_query.specs.Steps.{AddsJoin};
-ghost use Rattle.med_syntax.specs.ExprView.{expr_tree};
-ghost use Rattle.med_syntax.specs.QueryView.{entry_tree, join_tree, chain_tree};
+ghost use Rattle.med_syntax.specs.Prelude.{expr_tree, entry_tree, join_tree, chain_tree};
 ghost use Rattle.std.specs.Prelude.{ℕ, ◌+◌, [], map, length, option_map, Some};
 
 use crate::resolve::resolve;

@@ -8,21 +8,16 @@ bind_names::proofs::Causes::tells_memory, bind_names::proofs::Causes::tells_one,
 bind_names::proofs::Causes::none_of_two))]
 
 ghost use Rattle.bind_names.specs.Meaning as spec;
-ghost use Rattle.bind_names.specs.Meaning.{Output, first_value, sort_key, position, output_name, expression, key_direction};
-ghost use Rattle.bind_names.specs.Naming.{position_causes, output_name_causes, output_key_causes, distinct_causes};
-ghost use Rattle.bind_names.specs.Scope.{scope_of};
-ghost use Rattle.bind_names.specs.Telling.{Means, Passes, with_places};
+ghost use Rattle.bind_names.specs.Prelude.{Output, first_value, sort_key, position, output_name, expression, key_direction, position_causes, output_name_causes, output_key_causes, distinct_causes, scope_of, Means, Passes, with_places};
 ghost use Rattle.bind_names.specs.declared.scope.FoundPlaces.TheVariants.{Nothing};
 ghost use Rattle.bind_query.specs.Resolving.{key_form, outputs_named, SortsBy, ResolvesKeys, PlacesKeys, FindsPlaces};
 ghost use Rattle.bind_query.specs.Shown.{output_of};
 ghost use Rattle.bind_query.specs.Steps.{IsFirst};
 ghost use Rattle.med_query.specs.Form.{direction_of};
-ghost use Rattle.med_syntax.specs.ExprView.{expr_tree};
-ghost use Rattle.med_syntax.specs.QueryView.{key_tree, group_tree};
+ghost use Rattle.med_syntax.specs.Prelude.{expr_tree, key_tree, group_tree};
 ghost use Rattle.std.specs.List.{list_any, list_all};
 ghost use Rattle.std.specs.Prelude.{◌≡◌, ◌-◌, ℕ, [], map, drop};
-ghost use Rattle.tri_expr.specs.Tree.{tree};
-ghost use Rattle.tri_expr.specs.TreeParts.{same_tree};
+ghost use Rattle.tri_expr.specs.Prelude.{tree, same_tree};
 
 use crate::outputs::Shown;
 use crate::resolve::resolve;

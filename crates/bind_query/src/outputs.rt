@@ -9,12 +9,9 @@ bind_names::proofs::Causes::none_of_two,
 // what is added, and what stands in a place
 bind_names::proofs::Added::added_end))]
 
-ghost use Rattle.bind_names.specs.Meaning.{columns_from, starred, starred_in, expression_name, shown_name};
-ghost use Rattle.bind_names.specs.Scope.{scope_of, visible};
+ghost use Rattle.bind_names.specs.Prelude.{columns_from, starred, starred_in, expression_name, shown_name, scope_of, visible};
 ghost use Rattle.bind_query.specs.Resolving.{AddsShown, AddsItem, AddsItems, ResolvesItems};
-ghost use Rattle.med_syntax.specs.ExprView.{expr_tree};
-ghost use Rattle.med_syntax.specs.QueryTree.{value};
-ghost use Rattle.med_syntax.specs.QueryView.{item_tree};
+ghost use Rattle.med_syntax.specs.Prelude.{expr_tree, value, item_tree};
 ghost use Rattle.med_value.specs.Column.{column_of};
 ghost use Rattle.med_value.specs.declared.cause.Cause.TheVariants.{OutOfMemory};
 ghost use Rattle.std.specs.Prelude.{◌≡◌, ◌+◌, ◌≤◌, [], map, length, option_map, string_bytes, Some, None, IfOk, IfErr};

@@ -7,9 +7,7 @@ bind_names::proofs::Causes::tells_memory, bind_names::proofs::Causes::tells_one,
 // no cause in either part
 bind_names::proofs::Causes::none_of_two))]
 
-ghost use Rattle.bind_names.specs.Meaning.{joined, aggregate_of};
-ghost use Rattle.bind_names.specs.Scope.{scope_of};
-ghost use Rattle.bind_names.specs.Telling.{Means};
+ghost use Rattle.bind_names.specs.Prelude.{joined, aggregate_of, scope_of, Means};
 ghost use Rattle.bind_query.specs.Resolving.{Resolves, ResolvesBy, ResolvesAll, ResolvesBehind};
 ghost use Rattle.med_syntax.specs.ExprTree as w;
 ghost use Rattle.med_syntax.specs.ExprView.{expr_tree, expr_trees};

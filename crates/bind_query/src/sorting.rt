@@ -2,10 +2,7 @@
 #![tactic(auto, using(bind_names::proofs::Causes::tells_memory, bind_names::proofs::Added::added_end))]
 
 ghost use Rattle.bind_names.specs.Meaning as meaning;
-ghost use Rattle.bind_names.specs.Meaning.{item_at, key_meant, key_place, keys_sorting};
-ghost use Rattle.bind_names.specs.Naming.{key_name_causes, place_name_causes};
-ghost use Rattle.bind_names.specs.Scope.{scope_of};
-ghost use Rattle.bind_names.specs.Telling.{Means};
+ghost use Rattle.bind_names.specs.Prelude.{item_at, key_meant, key_place, keys_sorting, key_name_causes, place_name_causes, scope_of, Means};
 ghost use Rattle.bind_query.specs.Resolving.{SortsRows, sorting_form};
 ghost use Rattle.bind_query.specs.Shown.{output_of};
 ghost use Rattle.med_syntax.specs.QueryView.{key_tree, select_tree};

@@ -1,10 +1,7 @@
 //! Expressions that no query has as its items: a row of VALUES, and what SET writes.
 #![tactic(auto, using(bind_names::proofs::Causes::tells_memory))]
 
-ghost use Rattle.bind_names.specs.Meaning.{resolved};
-ghost use Rattle.bind_names.specs.Naming.{name_causes};
-ghost use Rattle.bind_names.specs.Scope.{scope_of};
-ghost use Rattle.bind_names.specs.Telling.{Means};
+ghost use Rattle.bind_names.specs.Prelude.{resolved, name_causes, scope_of, Means};
 ghost use Rattle.med_syntax.specs.ExprView.{expr_tree};
 ghost use Rattle.std.specs.Prelude.{map, flat_map};
 ghost use Rattle.tri_expr.specs.Tree.{tree};

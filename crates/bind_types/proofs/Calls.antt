@@ -6,9 +6,8 @@ use Rattle.med_syntax.specs.declared.expr.Expr.{Expr}
 use Rattle.med_syntax.specs.ExprView.{expr_tree, expr_trees}
 use Rattle.tri_expr.specs.declared.expr.SetFunction.{SetFunction}
 use Rattle.tri_expr.specs.declared.expr.SetFunction.TheVariants.{Count, Sum, Min, Max}
-use Rattle.bind_names.specs.Scope.{Scope}
+use Rattle.bind_names.specs.Prelude.{Scope, TellsCause}
 use Rattle.bind_types.specs.Typing.{type_of, types_of, call_type, as_call, type_causes_of_all}
-use Rattle.bind_names.specs.Telling.{TellsCause}
 use Rattle.bind_names.proofs.Causes.{tells_right, tells_one}
 
 two_untyped : (f : Option SetFunction) (t u : Option ColType) (ts : List (Option ColType)) → call_type f (t ∷ u ∷ ts) ≡ None

@@ -1,12 +1,9 @@
 -- The causes of order keys by their types do not depend on the outputs.
 use Rattle.std.proofs.Common.{◌≡◌, Bool, true, false, List, [], ◌∷◌, ◌++◌, Some, None, flat_map, if◌then◌else◌, refl, sym, ap, ◌∙◌}
 use Rattle.std.specs.List.{list_any}
-use Rattle.med_syntax.specs.Tree.{Name}
-use Rattle.med_syntax.specs.ExprTree.{ExprTree, num, negative, text, truth, null, column, call_all, call, paren, minus, binary, between, among, like, compare, tested, negation, chain}
+use Rattle.med_syntax.specs.Prelude.{Name, ExprTree, num, negative, text, truth, null, column, call_all, call, paren, minus, binary, between, among, like, compare, tested, negation, chain, KeyTree, CoreTree}
 use Rattle.med_value.specs.declared.cause.Cause.{Cause}
-use Rattle.med_syntax.specs.QueryTree.{KeyTree, CoreTree}
-use Rattle.bind_names.specs.Scope.{TableShape, Scope, from_scope}
-use Rattle.bind_names.specs.Meaning.{Output, output_name, expression, is_named, sort_key}
+use Rattle.bind_names.specs.Prelude.{TableShape, Scope, from_scope, Output, output_name, expression, is_named, sort_key}
 use Rattle.bind_types.specs.Typing.{type_causes, chain_type_causes, sort_key_type_causes, key_type_causes, core_written_causes}
 use Rattle.bind_types.specs.Kinds.{written_key_causes, asked_type_causes}
 

@@ -2,10 +2,8 @@
 use Rattle.std.proofs.Common.{◌≡◌, Bool, true, false, not, ◌&&◌, ◌||◌, List, [], ◌∷◌, ◌++◌, Result, Ok, Err, OnOk, map, flat_map, refl, sym, ◌∙◌}
 use Rattle.std.specs.List.{list_any, list_all}
 use Rattle.med_value.specs.declared.cause.Cause.{Cause}
-use Rattle.tri_expr.specs.Tree.{Tree}
-use Rattle.tri_expr.specs.TreeParts.{is_risky_tree}
-use Rattle.med_query.specs.Form.{JoinForm, cross_form, inner_form, left_form, ChainForm, all_safe_trees, is_safe_join_form, are_safe_chains, core_form}
-use Rattle.med_query.specs.Select.{are_safe_cores}
+use Rattle.tri_expr.specs.Prelude.{Tree, is_risky_tree}
+use Rattle.med_query.specs.Prelude.{JoinForm, cross_form, inner_form, left_form, ChainForm, all_safe_trees, is_safe_join_form, are_safe_chains, core_form, are_safe_cores}
 use Rattle.med_query.specs.declared.select.SelectCore.{SelectCore}
 use Rattle.bind_names.specs.Telling.{Passes}
 use Rattle.bind_types.specs.Typing.{unless, no_aggregate, no_risk, join_causes, chain_causes, core_causes}

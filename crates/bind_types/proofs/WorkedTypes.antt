@@ -2,8 +2,7 @@
 use Rattle.std.proofs.Common.{◌≡◌, false, [], ◌∷◌, codes, None, refl}
 use Rattle.med_value.specs.declared.value.ColType.TheVariants.{Int, Text}
 use Rattle.med_value.specs.declared.cause.Cause.TheVariants.{DatatypeMismatch, ValuesSyntax}
-use Rattle.med_syntax.specs.ExprTree.{ExprTree, num, null}
-use Rattle.med_syntax.specs.QueryTree.{value, CoreTree, SelectTree}
+use Rattle.med_syntax.specs.Prelude.{ExprTree, num, null, value, CoreTree, SelectTree}
 use Rattle.bind_names.proofs.WorkedQueries.{tables, from, both, shown}
 use Rattle.bind_types.specs.Typing.{answer_types, in_place, place_type, select_type_causes}
 

@@ -1,7 +1,6 @@
 -- The type of an expression whose names are places, over rows whose cells are of these types.
 use Rattle.std.specs.Prelude.{List, map, Option, Some, None, unwrap_or, slice_get}
-use Rattle.med_value.specs.Column.{Column}
-use Rattle.med_value.specs.Datum.{Datum, NoValue, Whole, Chars, Logic}
+use Rattle.med_value.specs.Prelude.{Column, Datum, NoValue, Whole, Chars, Logic}
 use Rattle.med_value.specs.declared.value.ColType.{ColType}
 use Rattle.med_value.specs.declared.value.ColType.TheVariants.{Int, Text, Bool as Truth}
 use Rattle.tri_expr.specs.declared.expr.SetFunction.{SetFunction}

@@ -12,12 +12,9 @@ use Rattle.med_syntax.specs.ExprTree.{ExprTree, ExprTrees, num, negative, text, 
 use Rattle.med_syntax.specs.QueryTree.{ItemTree, all, all_of, value, JoinTree, inner_join, left_join, cross_join, ChainTree, KeyTree, CoreTree, SelectTree, cores_of, StatementTree, select}
 use Rattle.tri_expr.specs.declared.expr.SetFunction.{SetFunction}
 use Rattle.tri_expr.specs.declared.expr.SetFunction.TheVariants.{Count, Sum, Min, Max}
-use Rattle.tri_expr.specs.Tree.{Tree}
-use Rattle.tri_expr.specs.TreeParts.{is_risky_tree}
+use Rattle.tri_expr.specs.Prelude.{Tree, is_risky_tree}
 use Rattle.med_query.specs.Form.{JoinForm, cross_form, inner_form, left_form, ChainForm, GroupForm, CoreForm, Form}
-use Rattle.bind_names.specs.Scope.{TableShape, Scope, candidates, columns_of, kind_among, entry_shape, from_scope}
-use Rattle.bind_names.specs.Aggregates.{has_aggregate, is_ungrouped}
-use Rattle.bind_names.specs.Meaning.{Output, SortKey, position, output_name, expression, sort_key, function_named, with_join, core_outputs, output_values, meant_in}
+use Rattle.bind_names.specs.Prelude.{TableShape, Scope, candidates, columns_of, kind_among, entry_shape, from_scope, has_aggregate, is_ungrouped, Output, SortKey, position, output_name, expression, sort_key, function_named, with_join, core_outputs, output_values, meant_in}
 use Rattle.bind_types.specs.TreeTypes.{tree_type, column_kinds}
 
 -- count(*) is a whole number; no other function takes *

@@ -2,11 +2,9 @@
 #![tactic(auto, using(bind_names::proofs::Causes::tells_left, bind_names::proofs::Causes::tells_right, bind_names::proofs::Causes::tells_memory, bind_names::proofs::Causes::tells_one, bind_names::proofs::Causes::none_of_two))]
 
 ghost use Rattle.std.specs.Prelude.{◌≡◌, ◌++◌, ◌∷◌, [], map, flat_map};
-ghost use Rattle.med_syntax.specs.ExprView.{expr_tree};
-ghost use Rattle.med_syntax.specs.QueryView.{item_tree, join_tree, chain_tree, key_tree, core_tree, select_tree};
-ghost use Rattle.bind_names.specs.Scope.{scope_of, table_shape, visible};
+ghost use Rattle.med_syntax.specs.Prelude.{expr_tree, item_tree, join_tree, chain_tree, key_tree, core_tree, select_tree};
+ghost use Rattle.bind_names.specs.Prelude.{scope_of, table_shape, visible, Passes};
 ghost use Rattle.bind_types.specs.Typing as spec;
-ghost use Rattle.bind_names.specs.Telling.{Passes};
 ghost use Rattle.bind_types.specs.Kinds.{written_key_causes, asked_type_causes};
 
 use crate::typing::{operand, type_of};

@@ -4,8 +4,7 @@
 ghost use Rattle.bind_names.specs.Aggregates as spec;
 ghost use Rattle.bind_names.specs.Telling.{Passes};
 ghost use Rattle.bind_types.specs.Typing as causes;
-ghost use Rattle.med_query.specs.Form.{join_form, chain_form, group_form, core_form, form_of};
-ghost use Rattle.med_query.specs.Select.{are_safe_cores};
+ghost use Rattle.med_query.specs.Prelude.{join_form, chain_form, group_form, core_form, form_of, are_safe_cores};
 ghost use Rattle.std.specs.List.{list_any};
 ghost use Rattle.std.specs.Prelude.{◌≡◌, ◌++◌, map, flat_map, option_map, true, IfOk, OnOk};
 ghost use Rattle.tri_expr.specs.Tree.{tree, trees};

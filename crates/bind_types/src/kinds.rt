@@ -2,8 +2,7 @@
 #![tactic(auto, using(bind_names::proofs::Added::added_end, crate::proofs::OutputPlaces::kinds_behind))]
 
 ghost use Rattle.std.specs.Prelude.{◌≡◌, ◌++◌, map, IfOk, slice_get};
-ghost use Rattle.med_value.specs.Column.{column_of};
-ghost use Rattle.med_value.specs.Datum.{datum};
+ghost use Rattle.med_value.specs.Prelude.{column_of, datum};
 ghost use Rattle.bind_names.specs.Scope.{columns_of, scope_of};
 ghost use Rattle.bind_types.specs.TreeTypes.{column_kinds, datum_type, set_type, tree_type};
 ghost use Rattle.tri_expr.specs.Tree.{tree};

@@ -1,9 +1,7 @@
 //! The types of expressions.
 #![tactic(auto, using(bind_names::proofs::Causes::tells_left, bind_names::proofs::Causes::tells_right, bind_names::proofs::Causes::tells_memory, bind_names::proofs::Causes::tells_one, bind_names::proofs::Causes::none_of_two))]
 
-ghost use Rattle.bind_names.specs.Meaning.{function_named};
-ghost use Rattle.bind_names.specs.Scope.{scope_of};
-ghost use Rattle.bind_names.specs.Telling.{Means, Passes, FindsKind};
+ghost use Rattle.bind_names.specs.Prelude.{function_named, scope_of, Means, Passes, FindsKind};
 ghost use Rattle.bind_types.specs.Kinds.{Meets};
 ghost use Rattle.bind_types.specs.Typing as spec;
 ghost use Rattle.med_syntax.specs.ExprView.{expr_tree, expr_trees};

@@ -2,8 +2,7 @@
 #![tactic(auto, using(bind_names::proofs::Causes::tells_left))]
 
 ghost use Rattle.std.specs.Prelude.{[], map, flat_map, option_map};
-ghost use Rattle.bind_names.specs.Scope.{scope_of};
-ghost use Rattle.bind_names.specs.Telling.{Passes};
+ghost use Rattle.bind_names.specs.Prelude.{scope_of, Passes};
 ghost use Rattle.bind_types.specs.Typing.{condition_type_causes, type_causes};
 ghost use Rattle.med_syntax.specs.ExprView.{expr_tree};
 

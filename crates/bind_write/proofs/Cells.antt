@@ -3,12 +3,9 @@ use Rattle.std.proofs.Common.{◌≡◌, ℕ, suc, Bool, true, false, List, [], 
 use Rattle.std.specs.Option.{option_and_then}
 use Rattle.med_value.specs.Column.{Column}
 use Rattle.med_value.specs.declared.value.ColType.{ColType}
-use Rattle.med_syntax.specs.Tree.{Name}
-use Rattle.med_syntax.specs.ExprTree.{ExprTree}
-use Rattle.med_syntax.specs.WriteTree.{SetTree}
+use Rattle.med_syntax.specs.Prelude.{Name, ExprTree, SetTree}
 use Rattle.tri_expr.specs.Tree.{Tree}
-use Rattle.bind_names.specs.Scope.{Scope}
-use Rattle.bind_names.specs.Meaning.{resolved}
+use Rattle.bind_names.specs.Prelude.{Scope, resolved}
 use Rattle.bind_types.specs.TreeTypes.{tree_type, column_kinds}
 use Rattle.bind_write.specs.Meaning.{set_for, cells_meant, name_place}
 use Rattle.bind_write.specs.Naming.{set_names, set_values}

@@ -3,10 +3,7 @@ use Rattle.std.proofs.Common.{◌≡◌, List, [], map, flat_map, Option, refl, 
 use Rattle.med_value.specs.declared.cause.Cause.{Cause}
 use Rattle.med_syntax.specs.ExprTree.{ExprTree}
 use Rattle.tri_expr.specs.Tree.{Tree, tree}
-use Rattle.bind_names.specs.Meaning.{resolved, conditions_of}
-use Rattle.bind_names.specs.Naming.{name_causes, condition_name_causes}
-use Rattle.bind_names.specs.Scope.{Scope}
-use Rattle.bind_names.specs.Telling.{TellsCause}
+use Rattle.bind_names.specs.Prelude.{resolved, conditions_of, name_causes, condition_name_causes, Scope, TellsCause}
 use Rattle.bind_names.proofs.Causes.{none_of_two}
 use Rattle.med_binder.specs.Turns.{TellsInTurn}
 use Rattle.bind_write.specs.Asking.{AreBound, types_over, value_names}

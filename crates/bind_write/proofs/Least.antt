@@ -2,10 +2,8 @@
 use Rattle.std.proofs.Common.{◌≡◌, ◌≤◌, ◌⊎◌, inl, inr, arith}
 use Rattle.med_value.specs.declared.cause.Cause.{Cause}
 use Rattle.med_value.specs.declared.cause.Cause.TheVariants.{OutOfMemory}
-use Rattle.med_syntax.specs.Tree.{Name}
-use Rattle.med_syntax.specs.WriteTree.{WriteTree}
-use Rattle.med_catalog.specs.DdlCauses.{phase}
-use Rattle.med_catalog.specs.Objects.{Objects}
+use Rattle.med_syntax.specs.Prelude.{Name, WriteTree}
+use Rattle.med_catalog.specs.Prelude.{phase, Objects}
 use Rattle.bind_write.specs.Naming.{WriteNames}
 use Rattle.bind_write.specs.Typing.{WriteTypes}
 use Rattle.bind_write.proofs.Phases.{names, types}

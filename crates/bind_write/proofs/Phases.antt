@@ -3,30 +3,20 @@ use Rattle.std.proofs.Common.{◌≡◌, ◌⊎◌, inl, inr, ℕ, zero, suc, na
 use Rattle.std.specs.Option.{is_some}
 use Rattle.std.specs.List.{list_all}
 use Rattle.std.proofs.lemmas.List.Elements.{Contains-append_left, Contains-append_right}
-use Rattle.med_value.specs.Causes.{phase_of}
-use Rattle.med_value.specs.Column.{Column}
+use Rattle.med_value.specs.Prelude.{phase_of, Column}
 use Rattle.med_value.specs.declared.value.ColType.{ColType}
 use Rattle.med_value.specs.declared.value.ColType.TheVariants.{Bool as Truth}
 use Rattle.med_value.specs.declared.cause.Cause.{Cause}
 use Rattle.med_value.specs.declared.cause.Cause.TheVariants.{UndefinedTable, UndefinedColumn, UndefinedObject, NoPrivilege, DuplicateColumn, MisplacedName, Grouping, DatatypeMismatch, ValuesSyntax}
-use Rattle.med_syntax.specs.Tree.{Name}
-use Rattle.med_syntax.specs.ExprTree.{ExprTree}
-use Rattle.med_syntax.specs.QueryTree.{value, EntryTree, ChainTree, SelectTree, select}
-use Rattle.med_syntax.specs.WriteTree.{GivenTree, values, rows_of, InsertTree, WriteTree, insert, update, delete}
+use Rattle.med_syntax.specs.Prelude.{Name, ExprTree, value, EntryTree, ChainTree, SelectTree, select, GivenTree, values, rows_of, InsertTree, WriteTree, insert, update, delete}
 use Rattle.tri_expr.specs.Tree.{Tree}
-use Rattle.bind_names.specs.Scope.{TableShape, Scope, from_scope, place_named}
-use Rattle.bind_names.specs.Meaning.{resolved, conditions_of}
-use Rattle.bind_names.specs.Naming.{name_causes, chain_name_causes, condition_name_causes, entered_causes, asked_causes, once_known}
+use Rattle.bind_names.specs.Prelude.{TableShape, Scope, from_scope, place_named, resolved, conditions_of, name_causes, chain_name_causes, condition_name_causes, entered_causes, asked_causes, once_known}
 use Rattle.bind_types.specs.Typing.{type_of, takes, unless, as_condition, no_aggregate, type_causes, chain_type_causes, condition_type_causes, answer_types, select_type_causes}
 use Rattle.med_binder.proofs.LawPhases.{names_are_of_phase, types_are_of_phase}
-use Rattle.med_catalog.specs.DdlCauses.{phase}
-use Rattle.med_catalog.specs.Objects.{TableObject, Objects, table_named}
-use Rattle.med_catalog.specs.Options.{repeats}
-use Rattle.med_catalog.specs.Rights.{mode_for}
+use Rattle.med_catalog.specs.Prelude.{phase, TableObject, Objects, table_named, repeats, mode_for}
 use Rattle.med_catalog.specs.declared.kind.Mode.{Mode}
 use Rattle.med_catalog.specs.declared.kind.Mode.TheVariants.{Read, Write}
-use Rattle.med_binder.specs.Barred.{writing_causes, table_causes, target_right_causes}
-use Rattle.med_binder.specs.Tables.{shapes}
+use Rattle.med_binder.specs.Prelude.{writing_causes, table_causes, target_right_causes, shapes}
 use Rattle.med_binder.proofs.Phases as of_query
 use Rattle.bind_write.specs.Meaning.{target_of, columns_in, scope_in, cells_meant, places_meant, row_meant}
 use Rattle.bind_write.specs.Naming.{target_causes, is_column, column_unknown, list_causes, named_causes, row_name_causes, insert_name_causes, set_names, set_values, write_name_causes, given_right_causes, read_right_causes, write_right_causes, WriteNames}

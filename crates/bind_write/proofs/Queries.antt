@@ -5,28 +5,17 @@ use Rattle.med_value.specs.Column.{Column, column_of}
 use Rattle.med_value.specs.declared.value.ColType.{ColType}
 use Rattle.med_value.specs.declared.cause.Cause.{Cause}
 use Rattle.med_value.specs.declared.cause.Cause.TheVariants.{OutOfMemory}
-use Rattle.med_syntax.specs.Tree.{Name}
-use Rattle.med_syntax.specs.QueryTree.{SelectTree}
-use Rattle.med_syntax.specs.QueryView.{statement_tree}
+use Rattle.med_syntax.specs.Prelude.{Name, SelectTree, statement_tree, rows_of, given_tree}
 use Rattle.med_syntax.specs.declared.statement.Statement.{Statement}
 use Rattle.med_syntax.specs.declared.statement.Statement.TheVariants as s
-use Rattle.med_syntax.specs.WriteTree.{rows_of}
-use Rattle.med_syntax.specs.WriteView.{given_tree}
 use Rattle.med_syntax.specs.declared.write.Given.TheVariants as g
 use Rattle.med_write.specs.Form.{insert_form, answer_form}
-use Rattle.bind_names.specs.Naming.{entered_causes, asked_causes, select_name_causes, once_known}
+use Rattle.bind_names.specs.Prelude.{entered_causes, asked_causes, select_name_causes, once_known, TellsCause}
 use Rattle.bind_names.proofs.Causes.{none_of_two}
-use Rattle.bind_names.specs.Telling.{TellsCause}
 use Rattle.bind_types.specs.Typing.{answer_types, select_type_causes}
-use Rattle.med_binder.specs.Binding.{bound_kinds}
-use Rattle.med_binder.specs.Turns.{TellsInTurn}
+use Rattle.med_binder.specs.Prelude.{bound_kinds, TellsInTurn, query_right_causes, target_right_causes, query_in, TypesOver, Attached, QueryNames, shapes}
 use Rattle.med_binder.specs.declared.bound.BoundQuery.{BoundQuery}
 use Rattle.med_catalog.specs.Objects.{Objects}
-use Rattle.med_binder.specs.Barred.{query_right_causes, target_right_causes}
-use Rattle.med_binder.specs.Looked.{query_in, TypesOver}
-use Rattle.med_binder.specs.Places.{Attached}
-use Rattle.med_binder.specs.Queries.{QueryNames}
-use Rattle.med_binder.specs.Tables.{shapes}
 use Rattle.bind_write.proofs.Lists.{empty_by, in_turn_by, types_in_turn}
 use Rattle.bind_write.specs.Asking.{IsTarget}
 use Rattle.bind_write.specs.Meaning.{columns_in, places_meant}

@@ -2,14 +2,10 @@
 use Rattle.std.proofs.Common.{◌≡◌, ◌<◌, ℕ, length, List, [], ◌∷◌, Some, None, option_map, map, slice_get, slice_index_or, ap, sym, subst, refl, ◌∙◌}
 use Rattle.std.proofs.lemmas.Option.{slice_get-map, slice_get-get_or}
 use Rattle.med_value.specs.declared.cause.Cause.TheVariants.{UndefinedTable}
-use Rattle.med_syntax.specs.Tree.{Name}
-use Rattle.med_syntax.specs.QueryTree.{EntryTree}
+use Rattle.med_syntax.specs.Prelude.{Name, EntryTree}
 use Rattle.bind_names.specs.Scope.{place_named}
-use Rattle.med_catalog.specs.Objects.{TableObject, Objects, table_named}
-use Rattle.med_catalog.specs.Rights.{mode_for}
-use Rattle.med_binder.specs.Barred.{writing_causes, table_causes, target_right_causes}
-use Rattle.med_binder.specs.Tables.{shapes, AreNamedOnce}
-use Rattle.med_binder.specs.Places.{attached, IsPlaceOf}
+use Rattle.med_catalog.specs.Prelude.{TableObject, Objects, table_named, mode_for}
+use Rattle.med_binder.specs.Prelude.{writing_causes, table_causes, target_right_causes, shapes, AreNamedOnce, attached, IsPlaceOf}
 use Rattle.med_binder.specs.declared.bound_table.BoundTable.{BoundTable}
 use Rattle.med_binder.proofs.Rows.{causes_missing, causes_there, columns_there, place_found, within_by}
 use Rattle.bind_write.specs.Meaning.{columns_in}

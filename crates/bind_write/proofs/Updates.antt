@@ -4,18 +4,13 @@ use Rattle.std.proofs.lemmas.List.Elements.{Contains-append_left, Contains-appen
 use Rattle.med_value.specs.Column.{Column}
 use Rattle.med_value.specs.declared.cause.Cause.{Cause}
 use Rattle.med_value.specs.declared.cause.Cause.TheVariants.{MisplacedName}
-use Rattle.med_syntax.specs.Tree.{Name}
-use Rattle.med_syntax.specs.WriteTree.{UpdateTree, update}
+use Rattle.med_syntax.specs.Prelude.{Name, UpdateTree, update}
 use Rattle.tri_expr.specs.Tree.{Tree}
 use Rattle.med_write.specs.Form.{update_form}
-use Rattle.bind_names.specs.Naming.{once_known}
-use Rattle.bind_names.specs.Telling.{TellsCause}
+use Rattle.bind_names.specs.Prelude.{once_known, TellsCause}
 use Rattle.bind_names.proofs.Causes.{none_of_two}
-use Rattle.med_binder.specs.Turns.{TellsInTurn}
+use Rattle.med_binder.specs.Prelude.{TellsInTurn, target_right_causes, Attached, shapes}
 use Rattle.med_catalog.specs.Objects.{Objects}
-use Rattle.med_binder.specs.Barred.{target_right_causes}
-use Rattle.med_binder.specs.Places.{Attached}
-use Rattle.med_binder.specs.Tables.{shapes}
 use Rattle.bind_write.specs.declared.target.Target.{Target}
 use Rattle.bind_write.specs.declared.write_values.BoundValues.{BoundValues}
 use Rattle.bind_write.specs.Meaning.{columns_in, scope_in, cells_meant}

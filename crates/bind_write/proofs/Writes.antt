@@ -4,20 +4,12 @@ use Rattle.std.proofs.lemmas.List.Elements.{Contains-append_left, Contains-appen
 use Rattle.med_value.specs.Column.{column_of}
 use Rattle.med_value.specs.declared.cause.Cause.{Cause}
 use Rattle.med_value.specs.declared.cause.Cause.TheVariants.{OutOfMemory}
-use Rattle.med_syntax.specs.Tree.{Name}
-use Rattle.med_syntax.specs.ExprTree.{ExprTree}
-use Rattle.med_syntax.specs.QueryTree.{EntryTree}
-use Rattle.med_syntax.specs.WriteTree.{DeleteTree, WriteTree, delete}
-use Rattle.bind_names.specs.Naming.{once_known}
-use Rattle.bind_names.specs.Scope.{TableShape, Scope, scope_of, visible}
+use Rattle.med_syntax.specs.Prelude.{Name, ExprTree, EntryTree, DeleteTree, WriteTree, delete}
+use Rattle.bind_names.specs.Prelude.{once_known, TableShape, Scope, scope_of, visible, TellsCause}
 use Rattle.bind_names.specs.declared.scope.Visible.{Visible}
-use Rattle.bind_names.specs.Telling.{TellsCause}
-use Rattle.med_binder.specs.Turns.{TellsInTurn}
+use Rattle.med_binder.specs.Prelude.{TellsInTurn, target_right_causes, Attached, shapes}
 use Rattle.med_catalog.specs.Objects.{Objects}
 use Rattle.med_write.specs.Form.{form_of}
-use Rattle.med_binder.specs.Barred.{target_right_causes}
-use Rattle.med_binder.specs.Places.{Attached}
-use Rattle.med_binder.specs.Tables.{shapes}
 use Rattle.bind_write.specs.declared.target.Target.{Target}
 use Rattle.bind_write.specs.declared.write_values.BoundValues.{BoundValues}
 use Rattle.bind_write.specs.declared.bound.TableWrite.{TableWrite}

@@ -2,20 +2,12 @@
 use Rattle.std.specs.Prelude.{◌≡◌, List, [], ◌++◌, map, flat_map, Option, Some, Result, Ok, Err}
 use Rattle.med_value.specs.Column.{Column, column_of}
 use Rattle.med_value.specs.declared.cause.Cause.{Cause}
-use Rattle.med_syntax.specs.Tree.{Name}
-use Rattle.med_syntax.specs.ExprTree.{ExprTree}
-use Rattle.med_syntax.specs.QueryTree.{EntryTree}
+use Rattle.med_syntax.specs.Prelude.{Name, ExprTree, EntryTree}
 use Rattle.tri_expr.specs.Tree.{Tree, tree}
-use Rattle.bind_names.specs.Scope.{TableShape, Scope, exposed_name, place_named}
-use Rattle.bind_names.specs.Naming.{name_causes, condition_name_causes}
-use Rattle.bind_names.specs.Meaning.{resolved, conditions_of}
-use Rattle.bind_names.specs.Telling.{TellsCause}
+use Rattle.bind_names.specs.Prelude.{TableShape, Scope, exposed_name, place_named, name_causes, condition_name_causes, resolved, conditions_of, TellsCause}
 use Rattle.bind_types.specs.Typing.{type_causes, condition_type_causes, no_aggregate}
-use Rattle.med_binder.specs.Turns.{TellsInTurn}
+use Rattle.med_binder.specs.Prelude.{TellsInTurn, target_right_causes, shapes, Attached, IsPlaceOf}
 use Rattle.med_catalog.specs.Objects.{Objects}
-use Rattle.med_binder.specs.Barred.{target_right_causes}
-use Rattle.med_binder.specs.Tables.{shapes}
-use Rattle.med_binder.specs.Places.{Attached, IsPlaceOf}
 use Rattle.bind_write.specs.declared.target.Target.{Target}
 use Rattle.bind_write.specs.declared.write_values.BoundValues.{BoundValues}
 use Rattle.bind_write.specs.Meaning.{columns_in}

@@ -2,22 +2,13 @@
 use Rattle.std.specs.Prelude.{◌≡◌, ◌≤◌, ◌⊎◌, List, [], map, true, Some, None, Option}
 use Rattle.med_value.specs.declared.cause.Cause.{Cause}
 use Rattle.med_value.specs.declared.cause.Cause.TheVariants.{OutOfMemory}
-use Rattle.med_syntax.specs.Tree.{Name}
-use Rattle.med_syntax.specs.ExprTree.{ExprTree}
-use Rattle.med_syntax.specs.QueryTree.{SelectTree}
-use Rattle.med_syntax.specs.WriteTree.{GivenTree, values, rows_of, WriteTree, insert, update, delete}
+use Rattle.med_syntax.specs.Prelude.{Name, ExprTree, SelectTree, GivenTree, values, rows_of, WriteTree, insert, update, delete}
 use Rattle.med_query.specs.Select.{are_safe_cores}
 use Rattle.bind_names.specs.Scope.{place_named, query_scope}
-use Rattle.med_binder.specs.Binding.{IsMeant}
-use Rattle.med_binder.specs.Counted.{bound_widths}
-use Rattle.med_binder.specs.Within.{widths}
+use Rattle.med_binder.specs.Prelude.{IsMeant, bound_widths, widths, shapes, Attached, IsPlaceOf, ArePlaces, meant_by}
 use Rattle.med_binder.specs.declared.bound.BoundQuery.{BoundQuery}
 use Rattle.med_binder.specs.Place as offered
-use Rattle.med_catalog.specs.DdlCauses.{phase}
-use Rattle.med_catalog.specs.Objects.{Objects}
-use Rattle.med_binder.specs.Tables.{shapes}
-use Rattle.med_binder.specs.Places.{Attached, IsPlaceOf, ArePlaces}
-use Rattle.med_binder.specs.Queries.{meant_by}
+use Rattle.med_catalog.specs.Prelude.{phase, Objects}
 use Rattle.med_write.specs.Form.{form_of}
 use Rattle.bind_write.specs.declared.bound.TableWrite.{TableWrite}
 use Rattle.bind_write.specs.Meaning.{target_of, columns_in, written_column, write_meant}

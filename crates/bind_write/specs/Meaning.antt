@@ -1,13 +1,9 @@
 -- What INSERT, UPDATE and DELETE mean over the tables of a catalogue, in terms of places (SQL:2016, part 2, 14 "Data manipulation").
 use Rattle.std.specs.Prelude.{ℕ, suc, List, [], ◌∷◌, map, Option, Some, None, option_map, unwrap_or, bytes_eq, if◌then◌else◌}
 use Rattle.med_value.specs.Column.{Column}
-use Rattle.med_syntax.specs.Tree.{Name}
-use Rattle.med_syntax.specs.ExprTree.{ExprTree}
-use Rattle.med_syntax.specs.QueryTree.{EntryTree}
-use Rattle.med_syntax.specs.WriteTree.{GivenTree, values, rows_of, InsertTree, SetTree, UpdateTree, DeleteTree, WriteTree, insert, update, delete}
+use Rattle.med_syntax.specs.Prelude.{Name, ExprTree, EntryTree, GivenTree, values, rows_of, InsertTree, SetTree, UpdateTree, DeleteTree, WriteTree, insert, update, delete}
 use Rattle.tri_expr.specs.Tree.{Tree}
-use Rattle.bind_names.specs.Scope.{TableShape, Scope, table_named, entry_shape}
-use Rattle.bind_names.specs.Meaning.{resolved, conditions_of}
+use Rattle.bind_names.specs.Prelude.{TableShape, Scope, table_named, entry_shape, resolved, conditions_of}
 use Rattle.med_write.specs.declared.write.WrittenColumn.{WrittenColumn}
 use Rattle.med_write.specs.Form.{GivenForm, values_form, answer_form, WriteForm, insert_form, update_form, delete_form}
 

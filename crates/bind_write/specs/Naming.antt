@@ -5,15 +5,10 @@ use Rattle.std.specs.List.{list_any}
 use Rattle.med_value.specs.Column.{Column}
 use Rattle.med_value.specs.declared.cause.Cause.{Cause}
 use Rattle.med_value.specs.declared.cause.Cause.TheVariants.{UndefinedTable, UndefinedColumn, DuplicateColumn, MisplacedName}
-use Rattle.med_syntax.specs.Tree.{Name}
-use Rattle.med_syntax.specs.ExprTree.{ExprTree}
-use Rattle.med_syntax.specs.WriteTree.{GivenTree, values, rows_of, InsertTree, SetTree, UpdateTree, DeleteTree, WriteTree, insert, update, delete}
-use Rattle.bind_names.specs.Scope.{TableShape, place_named}
-use Rattle.bind_names.specs.Naming.{name_causes, condition_name_causes, entered_causes, asked_causes, once_known}
-use Rattle.med_catalog.specs.Objects.{Objects}
-use Rattle.med_catalog.specs.Options.{repeats}
-use Rattle.med_binder.specs.Barred.{query_right_causes, target_right_causes}
-use Rattle.med_binder.specs.Tables.{shapes}
+use Rattle.med_syntax.specs.Prelude.{Name, ExprTree, GivenTree, values, rows_of, InsertTree, SetTree, UpdateTree, DeleteTree, WriteTree, insert, update, delete}
+use Rattle.bind_names.specs.Prelude.{TableShape, place_named, name_causes, condition_name_causes, entered_causes, asked_causes, once_known}
+use Rattle.med_catalog.specs.Prelude.{Objects, repeats}
+use Rattle.med_binder.specs.Prelude.{query_right_causes, target_right_causes, shapes}
 use Rattle.bind_write.specs.Meaning.{target_of, columns_in, scope_in}
 
 -- 42P01 where there is no such table

@@ -3,25 +3,13 @@ use Rattle.std.specs.Prelude.{◌≡◌, List, [], ◌++◌, map, string_bytes, 
 use Rattle.med_value.specs.Column.{Column}
 use Rattle.med_value.specs.declared.cause.Cause.{Cause}
 use Rattle.med_value.specs.declared.cause.Cause.TheVariants.{OutOfMemory}
-use Rattle.med_syntax.specs.Tree.{Name}
-use Rattle.med_syntax.specs.ExprView.{expr_tree}
-use Rattle.med_syntax.specs.QueryTree.{SelectTree}
-use Rattle.med_syntax.specs.WriteTree.{SetTree, WriteTree}
+use Rattle.med_syntax.specs.Prelude.{Name, expr_tree, SelectTree, SetTree, WriteTree}
 use Rattle.med_query.specs.Select.{are_safe_cores}
-use Rattle.bind_names.specs.Naming.{entered_causes, asked_causes, once_known}
-use Rattle.bind_names.specs.Scope.{query_scope}
+use Rattle.bind_names.specs.Prelude.{entered_causes, asked_causes, once_known, query_scope}
 use Rattle.bind_types.specs.Typing.{answer_types, select_type_causes}
-use Rattle.med_binder.specs.Binding.{IsMeant, bound_kinds}
-use Rattle.med_binder.specs.Counted.{bound_widths}
-use Rattle.med_binder.specs.Within.{widths}
+use Rattle.med_binder.specs.Prelude.{IsMeant, bound_kinds, bound_widths, widths, TellsInTurn, entry_place, query_right_causes, Attached, ArePlaces, meant_by, shapes}
 use Rattle.med_binder.specs.declared.bound.BoundQuery.{BoundQuery}
-use Rattle.med_binder.specs.Turns.{TellsInTurn}
 use Rattle.med_catalog.specs.Objects.{Objects}
-use Rattle.med_binder.specs.Place.{entry_place}
-use Rattle.med_binder.specs.Barred.{query_right_causes}
-use Rattle.med_binder.specs.Places.{Attached, ArePlaces}
-use Rattle.med_binder.specs.Queries.{meant_by}
-use Rattle.med_binder.specs.Tables.{shapes}
 use Rattle.bind_write.specs.Naming.{named_causes, names_of, set_names, set_values}
 use Rattle.bind_write.specs.Typing.{types_of}
 use Rattle.bind_write.specs.declared.bound.TableWrite.{TableWrite}

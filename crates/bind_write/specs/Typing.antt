@@ -6,12 +6,9 @@ use Rattle.med_value.specs.Column.{Column}
 use Rattle.med_value.specs.declared.value.ColType.{ColType}
 use Rattle.med_value.specs.declared.cause.Cause.{Cause}
 use Rattle.med_value.specs.declared.cause.Cause.TheVariants.{DatatypeMismatch, ValuesSyntax}
-use Rattle.med_syntax.specs.Tree.{Name}
-use Rattle.med_syntax.specs.ExprTree.{ExprTree}
-use Rattle.med_syntax.specs.WriteTree.{GivenTree, values, rows_of, InsertTree, UpdateTree, DeleteTree, WriteTree, insert, update, delete}
+use Rattle.med_syntax.specs.Prelude.{Name, ExprTree, GivenTree, values, rows_of, InsertTree, UpdateTree, DeleteTree, WriteTree, insert, update, delete}
 use Rattle.tri_expr.specs.Tree.{Tree}
-use Rattle.bind_names.specs.Scope.{TableShape, Scope}
-use Rattle.bind_names.specs.Meaning.{resolved, conditions_of}
+use Rattle.bind_names.specs.Prelude.{TableShape, Scope, resolved, conditions_of}
 use Rattle.bind_types.specs.TreeTypes.{tree_type, column_kinds}
 use Rattle.bind_types.specs.Typing.{takes, unless, type_causes, condition_type_causes, no_aggregate, answer_types, select_type_causes}
 use Rattle.med_catalog.specs.Objects.{Objects}

@@ -3,8 +3,7 @@
 ghost use Rattle.std.specs.Prelude.{◌≡◌, length, map, IfOk, OnOk, IfErr};
 ghost use Rattle.med_value.specs.declared.cause.Cause.{Cause as AnyCause};
 ghost use Rattle.med_catalog.specs.View.{objects};
-ghost use Rattle.med_binder.specs.Tables.{AreNamedOnce};
-ghost use Rattle.med_binder.specs.Places.{attached};
+ghost use Rattle.med_binder.specs.Prelude.{AreNamedOnce, attached};
 ghost use Rattle.med_syntax.specs.WriteView.{write_tree};
 ghost use Rattle.bind_write.specs.Naming.{WriteNames};
 ghost use Rattle.bind_write.specs.Typing.{WriteTypes};

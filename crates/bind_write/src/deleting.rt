@@ -2,10 +2,8 @@
 
 ghost use Rattle.std.specs.Prelude.{◌≡◌, length, map};
 ghost use Rattle.med_catalog.specs.View.{objects};
-ghost use Rattle.med_binder.specs.Tables.{AreNamedOnce};
-ghost use Rattle.med_binder.specs.Places.{attached};
-ghost use Rattle.med_syntax.specs.WriteTree.{delete};
-ghost use Rattle.med_syntax.specs.WriteView.{delete_tree};
+ghost use Rattle.med_binder.specs.Prelude.{AreNamedOnce, attached};
+ghost use Rattle.med_syntax.specs.Prelude.{delete, delete_tree};
 ghost use Rattle.bind_write.specs.Steps.{BindsWrite};
 
 use crate::bound::TableWrite;

@@ -3,12 +3,8 @@
 
 ghost use Rattle.std.specs.Prelude.{◌≡◌, length, map, option_map, string_bytes};
 ghost use Rattle.med_catalog.specs.View.{objects};
-ghost use Rattle.med_binder.specs.Tables.{AreNamedOnce};
-ghost use Rattle.med_binder.specs.Places.{attached};
-ghost use Rattle.med_syntax.specs.QueryView.{statement_tree};
-ghost use Rattle.med_binder.specs.Looked.{query_in};
-ghost use Rattle.med_syntax.specs.WriteTree.{insert};
-ghost use Rattle.med_syntax.specs.WriteView.{insert_tree, names_tree, row_tree};
+ghost use Rattle.med_binder.specs.Prelude.{AreNamedOnce, attached, query_in};
+ghost use Rattle.med_syntax.specs.Prelude.{statement_tree, insert, insert_tree, names_tree, row_tree};
 ghost use Rattle.bind_write.specs.Binding.{values_write, query_write};
 ghost use Rattle.bind_write.specs.Steps.{BindsWrite};
 

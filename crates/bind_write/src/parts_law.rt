@@ -2,10 +2,8 @@
 
 ghost use Rattle.std.specs.Prelude.{◌≡◌};
 ghost use Rattle.med_value.specs.declared.cause.Cause.{Cause as AnyCause};
-ghost use Rattle.med_syntax.specs.Tree.{Name};
-ghost use Rattle.med_syntax.specs.WriteTree.{WriteTree};
-ghost use Rattle.med_catalog.specs.DdlCauses.{phase};
-ghost use Rattle.med_catalog.specs.Objects.{Objects};
+ghost use Rattle.med_syntax.specs.Prelude.{Name, WriteTree};
+ghost use Rattle.med_catalog.specs.Prelude.{phase, Objects};
 ghost use Rattle.bind_write.specs.Naming.{WriteNames};
 ghost use Rattle.bind_write.specs.Typing.{WriteTypes};
 

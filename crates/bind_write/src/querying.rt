@@ -3,14 +3,11 @@
 
 ghost use Rattle.std.specs.Prelude.{◌≡◌, length, map, flat_map, option_map};
 ghost use Rattle.med_value.specs.Column.{column_of};
-ghost use Rattle.med_syntax.specs.QueryView.{statement_tree};
-ghost use Rattle.med_syntax.specs.WriteView.{names_tree};
+ghost use Rattle.med_syntax.specs.Prelude.{statement_tree, names_tree};
 ghost use Rattle.bind_names.specs.Telling.{Passes};
 ghost use Rattle.bind_types.specs.Kinds.{types_in};
 ghost use Rattle.med_catalog.specs.View.{objects};
-ghost use Rattle.med_binder.specs.Looked.{query_in};
-ghost use Rattle.med_binder.specs.Places.{attached};
-ghost use Rattle.med_binder.specs.Tables.{AreNamedOnce};
+ghost use Rattle.med_binder.specs.Prelude.{query_in, attached, AreNamedOnce};
 ghost use Rattle.bind_write.specs.Typing.{row_fit_causes};
 ghost use Rattle.bind_write.specs.Steps.{AsksQuery};
 

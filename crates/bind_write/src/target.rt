@@ -5,9 +5,7 @@ ghost use Rattle.std.specs.Prelude.{◌≡◌, map, length, IfOk};
 ghost use Rattle.med_value.specs.Column.{column_of};
 ghost use Rattle.bind_names.specs.Telling.{Passes};
 ghost use Rattle.med_catalog.specs.View.{objects};
-ghost use Rattle.med_binder.specs.Barred.{writing_causes};
-ghost use Rattle.med_binder.specs.Tables.{AreNamedOnce};
-ghost use Rattle.med_binder.specs.Places.{attached};
+ghost use Rattle.med_binder.specs.Prelude.{writing_causes, AreNamedOnce, attached};
 ghost use Rattle.bind_write.specs.Meaning.{written_column};
 ghost use Rattle.bind_write.specs.Asking.{FindsTarget};
 

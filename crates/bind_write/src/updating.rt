@@ -5,11 +5,9 @@ ghost use Rattle.std.specs.Prelude.{◌≡◌, length, map, option_map, slice_ge
 ghost use Rattle.std.specs.Option.{option_and_then};
 ghost use Rattle.med_value.specs.Column.{Column, column_of};
 ghost use Rattle.med_catalog.specs.View.{objects};
-ghost use Rattle.med_binder.specs.Tables.{AreNamedOnce};
-ghost use Rattle.med_binder.specs.Places.{attached};
+ghost use Rattle.med_binder.specs.Prelude.{AreNamedOnce, attached};
 ghost use Rattle.tri_expr.specs.Tree.{tree};
-ghost use Rattle.med_syntax.specs.WriteTree.{update};
-ghost use Rattle.med_syntax.specs.WriteView.{set_tree, update_tree};
+ghost use Rattle.med_syntax.specs.Prelude.{update, set_tree, update_tree};
 ghost use Rattle.bind_write.specs.Meaning.{name_place};
 ghost use Rattle.bind_write.specs.Steps.{BindsWrite, SplitsSets};
 

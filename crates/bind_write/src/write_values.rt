@@ -8,11 +8,9 @@ bind_names::proofs::Causes::tells_one,
 bind_names::proofs::Causes::none_of_two))]
 
 ghost use Rattle.std.specs.Prelude.{◌≡◌, map, option_map};
-ghost use Rattle.bind_names.specs.Scope.{scope_of, visible};
-ghost use Rattle.bind_names.specs.Telling.{Passes};
+ghost use Rattle.bind_names.specs.Prelude.{scope_of, visible, Passes};
 ghost use Rattle.bind_types.specs.Typing.{no_aggregate};
-ghost use Rattle.med_syntax.specs.ExprView.{expr_tree};
-ghost use Rattle.med_syntax.specs.QueryView.{entry_tree};
+ghost use Rattle.med_syntax.specs.Prelude.{expr_tree, entry_tree};
 ghost use Rattle.med_value.specs.Column.{column_of};
 ghost use Rattle.tri_expr.specs.Tree.{tree};
 ghost use Rattle.bind_write.specs.Asking.{BindsValues, types_over, view_of};

@@ -1,7 +1,8 @@
 -- What changes make of a table, and the causes for which they are refused.
-use Rattle.std.proofs.Common.{◌≡◌, ℕ, suc, ◌+◌, ◌<◌, ◌≤◌, Bool, true, false, not, nat_le, nat_lt, List, [], ◌∷◌, ◌++◌, length, map, flat_map, replicate, Contains, refl, ap, sym, ◌∙◌, arith}
+use Rattle.std.proofs.Common.{◌≡◌, ℕ, suc, ◌+◌, ◌<◌, ◌≤◌, Bool, true, false, not, nat_le, nat_lt, List, [], ◌∷◌, ◌++◌, length, map, flat_map, replicate, Option, Contains, refl, ap, sym, ◌∙◌, arith}
 use Rattle.std.specs.List.{list_any}
 use Rattle.std.specs.String.{string_bytes}
+use Rattle.std.specs.BTreeMap.{BTreeMap}
 use Rattle.std.proofs.lemmas.Bool.Decides.{nat_tests}
 use Rattle.std.proofs.lemmas.List.{map-append, length-append}
 use Rattle.std.proofs.lemmas.List.Elements.{Contains-append_left}
@@ -9,9 +10,7 @@ use Rattle.csv.specs.Records.{fields_of}
 use Rattle.csv.specs.declared.record.ByteRecord.{ByteRecord}
 use Rattle.med_value.specs.declared.cause.Cause.{Cause}
 use Rattle.med_value.specs.declared.cause.Cause.TheVariants.{NotInState, TooLarge}
-use Rattle.fdw_api.specs.Scan.{TableRow}
-use Rattle.fdw_api.specs.Kinds.{Held, held, Change}
-use Rattle.fdw_api.specs.Writes.{row_after, inserted, rows_after}
+use Rattle.fdw_api.specs.Prelude.{TableRow, Held, held, Change, row_after, inserted, rows_after}
 use Rattle.fdw_api.specs.declared.interface.Fault.{Fault}
 use Rattle.fdw_api.specs.declared.interface.Fault.TheVariants.{NoMemory, Source, Refused}
 use Rattle.csv_tables.specs.declared.table.CsvTable.{CsvTable}
@@ -25,7 +24,7 @@ use Rattle.csv_tables.specs.Shapes.{Shape, read_row, unless, hides_value, causes
 use Rattle.csv_tables.specs.Content.{TellsCause}
 use Rattle.csv_tables.specs.Flat.{header_in}
 use Rattle.csv_tables.specs.Tables.{shape_is, records_of, numbered}
-use Rattle.csv_tables.specs.Rewriting.{left_by, rows_left, Gathers, Rewrites, rows_in}
+use Rattle.csv_tables.specs.Rewriting.{left_by, fates_of, rows_left, Gathers, Rewrites, rows_in}
 use Rattle.csv_tables.proofs.Flat.{cut_length}
 use Rattle.csv_tables.proofs.Drafts.{told, under}
 use Rattle.csv_tables.proofs.Gathering.{left_kept}
@@ -53,12 +52,12 @@ made shape rs fresh count fates changes size same new =
     ∙ ap (λ (l : List Held). l ++ map (read_row shape) fresh) (same ∙ ap (λ (n : ℕ). rows_left shape rs (replicate n Keep) changes) (sym size) ∙ left_kept shape 0 rs changes)
     ∙ ap (λ (l : List Held). flat_map (λ r. row_after (line_of shape.null) r.id changes (held r ∷ [])) (numbered shape 0 rs) ++ l) new
 
-pub rows_made : (t : CsvTable) (fates : List (Fate ByteRecord)) (fresh : List ByteRecord) (changes : List Change)
-    → ((rows : List Record) → map (read_row (shape_is t.layout)) (left_by fates rows) ≡ rows_left (shape_is t.layout) rows (replicate t.rows.count Keep) changes)
+pub rows_made : (t : CsvTable) (changed : BTreeMap ℕ (Option ByteRecord)) (fresh : List ByteRecord) (changes : List Change)
+    → ((count : ℕ) (rows : List Record) → map (read_row (shape_is t.layout)) (left_by (fates_of changed count) rows) ≡ rows_left (shape_is t.layout) rows (replicate count Keep) changes)
     → map (read_row (shape_is t.layout)) (map fields_of fresh) ≡ flat_map (inserted (line_of (string_bytes t.layout.null))) changes
-    → map (read_row (shape_is t.layout)) (left_by fates (records_of t.rows) ++ map fields_of fresh) ≡ rows_after (line_of (string_bytes t.layout.null)) (rows_in t) changes
-rows_made t fates fresh changes same new =
-    made (shape_is t.layout) (records_of t.rows) (map fields_of fresh) t.rows.count fates changes (cut_length t.rows.count t.rows.width (held_of t.rows.fields)) (same (records_of t.rows)) new
+    → map (read_row (shape_is t.layout)) (left_by (fates_of changed t.rows.count) (records_of t.rows) ++ map fields_of fresh) ≡ rows_after (line_of (string_bytes t.layout.null)) (rows_in t) changes
+rows_made t changed fresh changes same new =
+    made (shape_is t.layout) (records_of t.rows) (map fields_of fresh) t.rows.count (fates_of changed t.rows.count) changes (cut_length t.rows.count t.rows.width (held_of t.rows.fields)) (same t.rows.count (records_of t.rows)) new
 
 -- how many records were put together
 pub gathered_size : (width : ℕ) (rs : List Record) (g : Gathered) → Gathers width rs g → length rs ≡ g.count

@@ -1,16 +1,14 @@
 -- Records that are put together, and what a write leaves of records.
-use Rattle.std.proofs.Common.{◌≡◌, ℕ, zero, suc, ◌+◌, ◌*◌, ◌-◌, ◌≤◌, Bool, true, false, ◌&&◌, nat_eq, List, [], ◌∷◌, ◌++◌, length, map, flat_map, replicate, take, drop, slice_set, Result, refl, ap, sym, ◌∙◌, subst, arith}
+use Rattle.std.proofs.Common.{◌≡◌, ℕ, ◌+◌, ◌*◌, ◌-◌, ◌≤◌, Bool, true, false, ◌&&◌, nat_eq, List, [], ◌∷◌, ◌++◌, length, map, flat_map, replicate, take, drop, Result, refl, ap, sym, ◌∙◌, subst, arith}
 use Rattle.std.specs.List.{list_all}
 use Rattle.std.specs.Result.{IfOk}
 use Rattle.std.specs.Str.{is_utf8}
 use Rattle.std.proofs.lemmas.Bool.Decides.{nat_tests}
-use Rattle.std.proofs.lemmas.List.{length-append, length-drop, length-take-le, length_push, append_assoc, drop-drop}
-use Rattle.csv.specs.Records.{fields_of, partial_of}
+use Rattle.std.proofs.lemmas.List.{length-append, length-drop, length-take-le, length_push, append_assoc}
+use Rattle.csv.specs.Records.{Row, fields_of, partial_of}
 use Rattle.csv.specs.declared.record.ByteRecord.{ByteRecord}
 use Rattle.med_value.specs.Datum.{Tuple}
-use Rattle.fdw_api.specs.Kinds.{Held, held, Change}
-use Rattle.fdw_api.specs.Writes.{row_after}
-use Rattle.wrapper_parts.specs.declared.fates.Fate.{Fate}
+use Rattle.fdw_api.specs.Prelude.{Held, held, Change, row_after}
 use Rattle.wrapper_parts.specs.declared.fates.Fate.TheVariants.{Keep}
 use Rattle.csv_tables.specs.declared.written.Gathered.{Gathered}
 use Rattle.csv_tables.specs.Cells.{line_of}
@@ -18,11 +16,12 @@ use Rattle.csv_tables.specs.CsvRecords.{Record, is_whole}
 use Rattle.csv_tables.specs.Shapes.{Shape, read_row}
 use Rattle.csv_tables.specs.declared.table.Rows.{Rows}
 use Rattle.csv_tables.specs.Tables.{numbered, records_of}
-use Rattle.csv_tables.specs.Rewriting.{is_wide, Gathers}
+use Rattle.csv_tables.specs.Rewriting.{Gathers}
 use Rattle.wrapper_parts.proofs.Weaves.{left_from}
 use Rattle.csv_tables.proofs.Flat.{cut_length}
 use Rattle.csv_tables.proofs.Holding.{ended_more, ended_both, whole_both, whole_take, whole_drop, rows_whole, rows_range}
-use Rattle.csv_tables.specs.Held.{held_of, ended}
+use Rattle.csv_tables.proofs.Shown.{plain_known, plain_both, plain_take, plain_drop}
+use Rattle.csv_tables.specs.Held.{held_of, ended, is_plain}
 
 both : (a b : Bool) → (a && b) ≡ true → (a ≡ true) × (b ≡ true)
 both true b e = (refl, e)
@@ -38,10 +37,15 @@ same_width width f e = equal (length f) width (both (nat_eq (length f) width) (l
     equal : (m n : ℕ) → nat_eq m n ≡ true → m ≡ n
     equal m n h = grind (arith, nat_tests)
 
+-- no record yet
+pub none_gathered : (width : ℕ) (fields : Row) (plain : Bool) → partial_of fields ≡ [] → fields_of fields ≡ [] → Gathers width [] (record { fields = fields; count = 0; plain = plain })
+none_gathered width fields plain ep ef = record { no_partial = ep; count_is = refl; whole = refl; lines = ef; shown = λ e. refl }
+
 -- one more record
 pub gathers_more : (width : ℕ) (rows : List Record) (g h : Gathered) (f : Record) → Gathers width rows g → is_whole width f ≡ true
-    → fields_of h.fields ≡ fields_of g.fields ++ ended f → partial_of h.fields ≡ [] → h.count ≡ g.count + 1 → Gathers width (rows ++ f ∷ []) h
-gathers_more width rows g h f was wide ef ep ec =
+    → fields_of h.fields ≡ fields_of g.fields ++ ended f → partial_of h.fields ≡ [] → h.count ≡ g.count + 1
+    → (h.plain ≡ true → (g.plain ≡ true) × (is_plain f ≡ true)) → Gathers width (rows ++ f ∷ []) h
+gathers_more width rows g h f was wide ef ep ec plain =
     let n = was.count_is in
     let l = length_push rows f in
     record {
@@ -49,13 +53,14 @@ gathers_more width rows g h f was wide ef ep ec =
       count_is = omega arith;
       whole = whole_both width rows (f ∷ []) was.whole (rw wide refl);
       lines = ef ∙ ap (λ (l : Record). l ++ ended f) was.lines ∙ sym (ended_more rows f);
+      shown = λ e. (let b = plain e in plain_both rows (f ∷ []) (was.shown b.0) (rw b.1 refl));
     }
 
 -- records of a table behind others
 pub gathers_range : (r : Rows) (rows : List Record) (g h : Gathered) (from to : ℕ) → Gathers r.width rows g → from ≤ to → to ≤ r.count
     → fields_of h.fields ≡ fields_of g.fields ++ take (to * r.width - from * r.width) (drop (from * r.width) (fields_of r.fields)) → partial_of h.fields ≡ []
-    → h.count ≡ g.count + (to - from) → Gathers r.width (rows ++ take (to - from) (drop from (records_of r))) h
-gathers_range r rows g h from to was order within ef ep ec =
+    → h.count ≡ g.count + (to - from) → (h.plain ≡ true → (g.plain ≡ true) × (r.plain ≡ true)) → Gathers r.width (rows ++ take (to - from) (drop from (records_of r))) h
+gathers_range r rows g h from to was order within ef ep ec plain =
     let more = take (to - from) (drop from (records_of r)) in
     let n = was.count_is in
     let all = cut_length r.count r.width (held_of r.fields) in
@@ -68,38 +73,14 @@ gathers_range r rows g h from to was order within ef ep ec =
       whole = whole_both r.width rows more was.whole (whole_take r.width (to - from) (drop from (records_of r)) (whole_drop r.width from (records_of r) (rows_whole r)));
       lines = ef ∙ ap (λ (l : Record). l ++ take (to * r.width - from * r.width) (drop (from * r.width) (fields_of r.fields))) was.lines
           ∙ ap (λ (l : Record). flat_map ended rows ++ l) (rows_range r from to order) ∙ sym (ended_both rows more);
+      shown = λ e. (let b = plain e in plain_both rows more (was.shown b.0) (plain_take (to - from) (drop from (records_of r)) (plain_drop from (records_of r) (plain_known r.plain (records_of r) r.shown b.1))));
     }
-
--- records that stand together from a place on: one more, and none
-pub run_more : (done rs : List Record) (from at : ℕ) (r : Record) (more : List Record) → from ≤ at → drop at rs ≡ r ∷ more
-    → (done ++ take (at - from) (drop from rs)) ++ r ∷ [] ≡ done ++ take ((at + 1) - from) (drop from rs)
-run_more done rs from at r more le e =
-    let there : from + (at - from) ≡ at = omega arith in
-    let n : (at + 1) - from ≡ suc (at - from) = omega arith in
-    append_assoc done (take (at - from) (drop from rs)) (r ∷ [])
-    ∙ ap (λ (l : List Record). done ++ l) (sym (one (drop from rs) (at - from) (drop-drop (at - from) from rs ∙ ap (λ (k : ℕ). drop k rs) there ∙ e))
-    ∙ ap (λ (k : ℕ). take k (drop from rs)) (sym n))
-  where
-    one : (l : List Record) (k : ℕ) → drop k l ≡ r ∷ more → take (suc k) l ≡ take k l ++ r ∷ []
-    one [] zero h = absurd cc
-    one [] (suc k) h = absurd cc
-    one (x ∷ l) zero h = let s : x ≡ r = cc in ap (λ (y : Record). y ∷ []) s
-    one (x ∷ l) (suc k) h = ap (λ (m : List Record). x ∷ m) (one l k h)
-
-pub run_none : (done rs : List Record) (at : ℕ) → done ≡ done ++ take (at - at) (drop at rs)
-run_none done rs at =
-    let z : at - at ≡ 0 = omega arith in
-    sym (append_none done) ∙ ap (λ (k : ℕ). done ++ take k (drop at rs)) (sym z)
 
 pub gathers_as : (width : ℕ) (xs ys : List Record) (g : Gathered) → Gathers width xs g → xs ≡ ys → Gathers width ys g
 gathers_as width xs ys g h e = subst (λ (l : List Record). Gathers width l g) e h
 
 pub gathers_all : {E : Type 0} (width : ℕ) (xs ys : List Record) (g : Result Gathered E) → IfOk g (λ g. Gathers width xs g) → xs ≡ ys → IfOk g (λ g. Gathers width ys g)
 gathers_all width xs ys g h e = subst (λ (l : List Record). IfOk g (λ g. Gathers width l g)) e h
-
--- a step over fates
-pub wide_first : (width : ℕ) (f : Fate ByteRecord) (fs gs : List (Fate ByteRecord)) → fs ≡ f ∷ gs → list_all (is_wide width) fs ≡ true → (is_wide width f ≡ true) × (list_all (is_wide width) gs ≡ true)
-wide_first width f fs gs e h = both (is_wide width f) (list_all (is_wide width) gs) (sym (ap (list_all (is_wide width)) e) ∙ h)
 
 -- the new records, one after the other
 pub lines_first : (width : ℕ) (x : ByteRecord) (xs ys : List ByteRecord) → xs ≡ x ∷ ys → list_all (is_whole width) (map fields_of xs) ≡ true
@@ -122,16 +103,6 @@ left_kept shape n (r ∷ rs) cs = ap (λ (l : List Held). row_after (line_of sha
 -- the row of a written record
 abbrev pub WritesRow : Shape → ByteRecord → Tuple → Type 0
 WritesRow shape r x = read_row shape (fields_of r) ≡ record { cells = x; origin = line_of shape.null x }
-
--- every fate stays wide
-pub wide_kept : (width n : ℕ) → list_all (is_wide width) (replicate n Keep) ≡ true
-wide_kept width zero = refl
-wide_kept width (suc n) = wide_kept width n
-
-pub wide_set : (width : ℕ) (fs : List (Fate ByteRecord)) (j : ℕ) (f : Fate ByteRecord) → list_all (is_wide width) fs ≡ true → is_wide width f ≡ true → list_all (is_wide width) (slice_set fs j f) ≡ true
-wide_set width [] j f h e = refl
-wide_set width (g ∷ fs) zero f h e = let w = both (is_wide width g) (list_all (is_wide width) fs) h in rw e w.1
-wide_set width (g ∷ fs) (suc j) f h e = let w = both (is_wide width g) (list_all (is_wide width) fs) h in rw w.0 (wide_set width fs j f w.1 e)
 
 pub no_lines : (l : List ByteRecord) → length l ≡ 0 → l ≡ []
 no_lines [] e = refl

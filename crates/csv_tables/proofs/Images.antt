@@ -8,9 +8,7 @@ use lib.Pointwise.{bytes_decides}
 use Rattle.med_value.specs.Datum.{Datum, NoValue, Whole, Chars, Logic, Tuple}
 use Rattle.med_value.specs.declared.value.ColType.{ColType}
 use Rattle.med_value.specs.declared.cause.Cause.TheVariants.{InvalidFormat, InvalidText, NotInState, TooLarge}
-use Rattle.fdw_api.specs.Scan.{row_fits, has_kind, is_clean}
-use Rattle.fdw_api.specs.Kinds.{Held, held, Bytes, Change, Inserts, Updates, Deletes}
-use Rattle.fdw_api.specs.Writes.{row_after, inserted, row_of_change_fits}
+use Rattle.fdw_api.specs.Prelude.{row_fits, has_kind, is_clean, Held, held, Bytes, Change, Inserts, Updates, Deletes, row_after, inserted, row_of_change_fits}
 use Rattle.csv_tables.specs.Cells.{cell_of, is_readable, field_of, line_of, reads_as_null}
 use Rattle.csv_tables.specs.CsvRecords.{Record, csv_records, csv_text, is_whole, heading, body, has_field, is_header}
 use Rattle.csv_tables.specs.Shapes.{Shape, read_row, unless, csv_reading, content_causes, all_whole, all_readable, hides_value, rows_text}

@@ -4,12 +4,13 @@ pub mod Fields
 pub mod Flat
 pub mod Holding
 pub mod Moving
-pub mod Plain
+pub mod Shown
 pub mod RowCells
 pub mod ReadLaws
 pub mod FieldSteps
 pub mod Drafts
 pub mod Gathering
+pub mod Changes
 pub mod ReadBack
 pub mod Sorting
 pub mod Writing
@@ -19,3 +20,4 @@ pub mod Images
 pub mod Headers
 pub mod Placing
 pub mod ScanLaws
+pub mod RisingKeys

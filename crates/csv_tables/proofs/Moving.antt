@@ -211,6 +211,19 @@ range_rising ends size from to h order within =
     subst (λ (n : ℕ). Rising (prev 0 ends from) (take (to - from) (drop from ends)) n) (prev_past 0 ends from (to - from) (omega arith) ∙ ap (prev 0 ends) t)
     (rising_first (prev 0 ends from) (drop from ends) size (to - from) (rising_past 0 ends size from h (omega arith)) (omega arith))
 
+places_stay : (from s size : ℕ) (ends : List ℕ) → from ≤ s → Rising s ends size → map (moved from from) ends ≡ ends
+unfolding Rising
+places_stay from s size [] low h = refl
+places_stay from s size (end ∷ ends) low h =
+    let l = h.0 in
+    let here : moved from from end ≡ end = omega arith in
+    ap (λ (k : ℕ). k ∷ map (moved from from) ends) here ∙ ap (λ (ks : List ℕ). end ∷ ks) (places_stay from end size ends (omega arith) h.1)
+
+pub range_stays : (ends : List ℕ) (size from to : ℕ) → Rising 0 ends size → from ≤ to → to ≤ length ends
+    → map (moved (prev 0 ends from) (prev 0 ends from)) (take (to - from) (drop from ends)) ≡ take (to - from) (drop from ends)
+range_stays ends size from to h order within =
+    places_stay (prev 0 ends from) (prev 0 ends from) (prev 0 ends to) (take (to - from) (drop from ends)) (omega arith) (range_rising ends size from to h order within)
+
 abbrev pub range_text : List ℕ → List ℕ → ℕ → ℕ → List ℕ
 range_text ends bytes from to = take (prev 0 ends to - prev 0 ends from) (drop (prev 0 ends from) bytes)
 

@@ -7,8 +7,7 @@ use Rattle.std.proofs.lemmas.Bool.Decides.{eqb_tells}
 use Rattle.std.proofs.lemmas.List.Elements.{All-weaker, All-from_recursion}
 use Rattle.std.proofs.lemmas.Map.Text.{is_eq-slice_cmp}
 use lib.Pointwise.{bytes_decides}
-use Rattle.med_value.specs.Datum.{Datum, NoValue, Whole, Chars, Logic, Tuple, cell}
-use Rattle.med_value.specs.Order.{compares_true}
+use Rattle.med_value.specs.Prelude.{Datum, NoValue, Whole, Chars, Logic, Tuple, cell, compares_true}
 use Rattle.med_value.specs.declared.order.Comparison.TheVariants as comparisons
 use Rattle.med_value.specs.declared.value.ColType.{ColType}
 use Rattle.med_value.specs.declared.value.ColType.TheVariants as types

@@ -8,9 +8,7 @@ use Rattle.csv.specs.Records.{fields_of}
 use Rattle.csv.specs.declared.record.ByteRecord.{ByteRecord}
 use Rattle.med_value.specs.Datum.{Tuple}
 use Rattle.med_value.specs.declared.value.ColType.{ColType}
-use Rattle.fdw_api.specs.Scan.{row_fits}
-use Rattle.fdw_api.specs.Kinds.{Held, Change, Inserts}
-use Rattle.fdw_api.specs.Writes.{inserted, row_of_change_fits}
+use Rattle.fdw_api.specs.Prelude.{row_fits, Held, Change, Inserts, inserted, row_of_change_fits}
 use Rattle.csv_tables.specs.Cells.{line_of, record_cells}
 use Rattle.csv_tables.specs.CsvRecords.{Record, is_whole}
 use Rattle.csv_tables.specs.Shapes.{Shape, read_row, hides_value}

@@ -1,8 +1,9 @@
 -- Fields that are held in one text as they stand in a blob: each with one byte behind it, which ends it.
-use Rattle.std.specs.Prelude.{◌+◌, ◌-◌, ℕ, Bool, if◌then◌else◌, List, [], ◌∷◌, ◌++◌, length, map, take}
+use Rattle.std.specs.Prelude.{◌||◌, ◌+◌, ◌-◌, ℕ, Bool, not, ◌&&◌, if◌then◌else◌, List, [], ◌∷◌, ◌++◌, length, map, take, nat_lt}
+use Rattle.std.specs.List.{list_all, list_any}
 use Rattle.csv.specs.Machine.{line_feed}
 use Rattle.csv.specs.Records.{Row, fields_of}
-use Rattle.csv.specs.Writing.{comma, default_writer, needs_byte}
+use Rattle.csv.specs.Writing.{comma, default_writer, needs_byte, needs_quotes}
 use Rattle.csv_tables.specs.CsvRecords.{Record}
 
 -- all of a text but its last byte
@@ -30,6 +31,14 @@ special b = if needs_byte default_writer b then 1 else 0
 abbrev pub special_in : List ℕ → ℕ
 special_in [] = 0
 special_in (b ∷ bs) = special b + special_in bs
+
+-- a record of two fields or more, of which none needs quotes: the writer writes it as it stands in such a text
+unfoldable pub is_plain : Record → Bool
+is_plain r = nat_lt 1 (length r) && not (list_any (needs_quotes default_writer) r)
+
+-- where it is said of records that they are plain, each of them is
+unfoldable pub plain_if : Bool → List Record → Bool
+plain_if said rows = not said || list_all is_plain rows
 
 -- a place that is counted from `from`, counted from `to`
 abbrev pub moved : ℕ → ℕ → ℕ → ℕ

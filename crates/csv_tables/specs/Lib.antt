@@ -8,3 +8,4 @@ pub mod Content
 pub mod Rewriting
 pub mod ReadAgain
 pub mod Scans
+pub mod Rises

@@ -4,8 +4,7 @@ use Rattle.std.specs.List.{list_all}
 use Rattle.std.specs.Str.{is_utf8, bytes_eq}
 use Rattle.csv.specs.Reading.{strip_bom}
 use Rattle.csv.specs.Writing.{default_writer, needs_quotes}
-use Rattle.fdw_api.specs.Kinds.{Held, Entry, Change, Inserts, Updates, Deletes}
-use Rattle.fdw_api.specs.Writes.{row_of_change_fits, rows_after}
+use Rattle.fdw_api.specs.Prelude.{Held, Entry, Change, Inserts, Updates, Deletes, row_of_change_fits, rows_after}
 use Rattle.csv_tables.specs.Cells.{is_readable, line_of}
 use Rattle.csv_tables.specs.CsvRecords.{Record, is_whole, is_header, heading}
 use Rattle.csv_tables.specs.Shapes.{Shape, causes_behind, records_in}

@@ -1,17 +1,17 @@
 -- What the staged changes of a write make of the records of a table.
-use Rattle.std.specs.Prelude.{◌≡◌, ℕ, ℤ, pos, negsuc, ◌^◌, Bool, true, false, List, [], ◌++◌, length, map, nat_lt, Some, Vec}
+use Rattle.std.specs.Prelude.{◌≡◌, ℕ, ℤ, pos, negsuc, ◌^◌, Bool, true, false, List, [], ◌++◌, length, map, nat_lt, Option, Some, None, Vec}
 use Rattle.std.specs.Global.{Global}
 use Rattle.std.specs.String.{string_bytes}
-use Rattle.std.specs.List.{list_all, flat_map}
+use Rattle.std.specs.List.{list_all, flat_map, range_with_len}
+use Rattle.std.specs.Ordering.{nat_cmp}
+use Rattle.std.specs.BTreeMap.{BTreeMap, get}
 use Rattle.std.specs.Str.{is_utf8}
 use Rattle.csv.specs.Records.{fields_of, partial_of}
 use Rattle.csv.specs.Writing.{default_writer, text_written, fields_written, has_written, writer_setup}
 use Rattle.csv.specs.declared.writer.Writer.{Writer}
 use Rattle.csv.specs.declared.record.ByteRecord.{ByteRecord}
 use Rattle.med_value.specs.Datum.{Datum, NoValue, Whole, Chars, Logic}
-use Rattle.fdw_api.specs.Scan.{TableRow}
-use Rattle.fdw_api.specs.Kinds.{Held, Change}
-use Rattle.fdw_api.specs.Writes.{rows_after}
+use Rattle.fdw_api.specs.Prelude.{TableRow, Held, Change, rows_after}
 use Rattle.csv_tables.specs.declared.table.CsvTable.{CsvTable}
 use Rattle.wrapper_parts.specs.declared.fates.Fate.{Fate}
 use Rattle.wrapper_parts.specs.declared.fates.Fate.TheVariants.{Keep, Change as ChangeTo, Gone}
@@ -21,7 +21,7 @@ use Rattle.csv_tables.specs.declared.written.Written.{Written}
 use Rattle.csv_tables.specs.Cells.{line_of}
 use Rattle.csv_tables.specs.CsvRecords.{Record, csv_records, csv_text, heading, is_whole}
 use Rattle.csv_tables.specs.Shapes.{Shape, read_row, causes_behind}
-use Rattle.csv_tables.specs.Held.{ended}
+use Rattle.csv_tables.specs.Held.{ended, is_plain}
 use Rattle.csv_tables.specs.Flat.{header_in}
 use Rattle.csv_tables.specs.Tables.{shape_is, numbered, records_of}
 
@@ -42,6 +42,20 @@ is_wide width Keep = true
 is_wide width (ChangeTo r) = is_whole width (fields_of r)
 is_wide width Gone = true
 
+-- what is set for a record is another one, or None for nothing; where nothing is set, it stays
+abbrev pub fate_is : Option (Option ByteRecord) → Fate ByteRecord
+fate_is None = Keep
+fate_is (Some None) = Gone
+fate_is (Some (Some r)) = ChangeTo r
+
+-- the fates of so many records, by what is set for their places
+abbrev pub fates_of : BTreeMap ℕ (Option ByteRecord) → ℕ → List (Fate ByteRecord)
+fates_of changed count = map (λ at. fate_is (get nat_cmp changed at)) (range_with_len 0 count)
+
+-- each record that is set is of this many fields, each of them UTF-8
+abbrev pub AllWide : ℕ → BTreeMap ℕ (Option ByteRecord) → Type 0
+AllWide width changed = (place : ℕ) → is_wide width (fate_is (get nat_cmp changed place)) ≡ true
+
 -- the records that their fates leave
 abbrev pub left_by : List (Fate ByteRecord) → List Record → List Record
 left_by = weaving.left_by fields_of
@@ -56,6 +70,8 @@ pub record Gathers (width : ℕ) (rows : List Record) (g : Gathered) : Type 0 wh
   pub count_is : length rows ≡ g.count
   pub whole : list_all (is_whole width) rows ≡ true
   pub lines : fields_of g.fields ≡ flat_map ended rows
+  -- where it is said of them, the writer writes each as it stands
+  pub shown : g.plain ≡ true → list_all is_plain rows ≡ true
 
 -- a writer with the crate's defaults has written this text, and stands between two records
 pub record HasWritten (text : List ℕ) (w : Writer (Vec ℕ Global)) : Type 0 where

@@ -3,14 +3,11 @@ use Rattle.std.specs.Prelude.{◌≡◌, ◌++◌, ℕ, Bool, true, false, not, 
 use Rattle.std.specs.List.{list_all, list_any}
 use Rattle.std.specs.Str.{bytes_eq}
 use mathlib.Core.Path.{refl, ap, ◌∙◌}
-use Rattle.med_value.specs.Causes.{phase_of}
+use Rattle.med_value.specs.Prelude.{phase_of, row_limit, byte_limit}
 use Rattle.med_value.specs.declared.cause.Cause.{Cause}
 use Rattle.med_value.specs.declared.cause.Cause.TheVariants.{TableNotFound, InvalidFormat, InvalidText, NotInState, TooLarge}
 use Rattle.med_value.specs.declared.value.ColType.{ColType}
-use Rattle.med_value.specs.Limits.{row_limit, byte_limit}
-use Rattle.fdw_api.specs.Scan.{TableRow}
-use Rattle.fdw_api.specs.Kinds.{Column, OptionForm, Entry, Bytes, Stored, Held, Reading, Change, Inserts, Updates, Deletes, kinds_of, is_late}
-use Rattle.fdw_api.specs.Writes.{rows_after}
+use Rattle.fdw_api.specs.Prelude.{TableRow, Column, OptionForm, Entry, Bytes, Stored, Held, Reading, Change, Inserts, Updates, Deletes, kinds_of, is_late, rows_after}
 use Rattle.csv_tables.specs.Cells.{is_readable, record_cells, line_of, reads_as_null}
 use Rattle.csv_tables.specs.CsvRecords.{Record, csv_records, csv_text, is_whole, body, heading}
 

@@ -16,6 +16,7 @@ ghost use Rattle.csv_tables.specs.Content.{HasRead, ReadsOn, TellsCause, IsDraft
 use crate::cells::is_cell;
 use crate::flat_fields::Fields;
 use crate::layout::Layout;
+use crate::plain::are_plain;
 use crate::table::Rows;
 use csv::{ByteRecord, Reader, ReaderBuilder};
 use fdw_api::interface::Fault;
@@ -239,12 +240,14 @@ pub fn read_content(alloc: Global, layout: &Layout, bytes: &[u8]) -> Result<Cont
     } = draft;
     let header = header_or_names(alloc, layout, header)?;
     let width = layout.kinds.len();
+    let plain = are_plain(width, &fields);
     Ok(Content {
         header,
         rows: Rows {
             width,
             fields,
             count,
+            plain,
         },
     })
 }
@@ -258,7 +261,7 @@ fn read_draft(alloc: Global, layout: &Layout, bytes: &[u8]) -> Result<Draft, Fau
 {
     let mut draft = Draft {
         header: None,
-        fields: Fields::with_room(alloc, bytes.len() + 1)?,
+        fields: Fields::with_room(alloc, bytes.len() + 1, 0)?,
         count: 0,
     };
     let mut rdr = reader_of(alloc, bytes);

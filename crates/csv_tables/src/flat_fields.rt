@@ -60,6 +60,22 @@ fn push_moved(ends: &mut Vec<u32>, places: &[u32], from: usize, to: usize) -> Re
     Ok(())
 }
 
+/// Appends places, which are counted from one place, as they are counted from another. They are copied at once where that is the same one.
+fn push_places(
+    ends: &mut Vec<u32>,
+    places: &[u32],
+    from: usize,
+    to: usize,
+) -> Result<(), AllocError>
+    requires { map (moved from from) places.now ≡ places.now }
+    ensures { OnOk result (ends.new.items ≡ ends.old.items ++ map (moved from to) places.now) }
+{
+    if from == to {
+        return ends.extend_from_slice(places);
+    }
+    push_moved(ends, places, from, to)
+}
+
 impl Fields {
     /// No fields.
     pub fn new(alloc: Global) -> Fields
@@ -72,14 +88,14 @@ impl Fields {
         }
     }
 
-    /// No fields, with room for so many bytes. It fails for want of memory alone.
-    pub fn with_room(alloc: Global, size: usize) -> Result<Fields, AllocError>
+    /// No fields, with room for so many bytes and so many fields. It fails for want of memory alone.
+    pub fn with_room(alloc: Global, size: usize, count: usize) -> Result<Fields, AllocError>
         ensures fields { IfOk result (λ f. fields_of f ≡ []) }
         ensures partial { IfOk result (λ f. partial_of f ≡ []) }
     {
         Ok(Fields {
             bytes: Vec::with_capacity(alloc, size)?,
-            ends: Vec::new(alloc),
+            ends: Vec::with_capacity(alloc, count)?,
         })
     }
 
@@ -157,7 +173,7 @@ impl Fields {
         } = self;
         let base = bytes.len();
         bytes.extend_from_slice(added)?;
-        push_moved(&mut ends, &others.ends.as_slice()[from..to], start, base)?;
+        push_places(&mut ends, &others.ends.as_slice()[from..to], start, base)?;
         Ok(Fields { bytes, ends })
     }
 }

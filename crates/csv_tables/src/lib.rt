@@ -6,6 +6,8 @@ pub mod content;
 pub mod flat_fields;
 pub mod law;
 pub mod layout;
+mod plain;
+pub mod rises;
 pub mod scan;
 pub mod table;
 pub mod written;

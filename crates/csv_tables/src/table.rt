@@ -3,7 +3,7 @@ ghost use Rattle.std.specs.Prelude.{◌≡◌, ◌*◌, ◌^◌, ◌<◌, true, 
 ghost use Rattle.std.specs.List.{list_all, flat_map};
 ghost use Rattle.std.specs.Str.{is_utf8};
 ghost use Rattle.csv.specs.Records.{fields_of};
-ghost use Rattle.csv_tables.specs.Held.{held_of, ended};
+ghost use Rattle.csv_tables.specs.Held.{held_of, ended, plain_if};
 ghost use Rattle.csv_tables.specs.CsvRecords.{is_header};
 ghost use Rattle.csv_tables.specs.Flat.{cut_into, header_in};
 
@@ -22,10 +22,13 @@ pub struct Rows {
     pub fields: Fields,
     /// How many records they are.
     pub count: usize,
+    /// Whether each record is known to be what the writer would write, as it stands.
+    pub plain: bool,
     pub ghost whole: { count * width ≡ length (held_of fields) },
     pub ghost small: { count < 2 ^ 64 },
     pub ghost texts: { list_all is_utf8 (held_of fields) ≡ true },
     pub ghost lines: { fields_of fields ≡ flat_map ended (cut_into count width (held_of fields)) },
+    pub ghost shown: { plain_if plain (cut_into count width (held_of fields)) ≡ true },
 }
 
 /// A bound table.

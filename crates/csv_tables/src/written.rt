@@ -5,45 +5,48 @@ ghost use Rattle.std.specs.Str.{is_utf8};
 ghost use Rattle.std.specs.String.{string_bytes};
 ghost use Rattle.csv.specs.Records.{fields_of, partial_of};
 ghost use Rattle.csv.specs.Writing.{default_writer, row_text};
-ghost use Rattle.med_value.specs.Datum.{tuple};
+ghost use Rattle.med_value.specs.Prelude.{tuple, row_limit};
 ghost use Rattle.med_value.specs.declared.cause.Cause.TheVariants.{NotInState};
-ghost use Rattle.med_value.specs.Limits.{row_limit};
-ghost use Rattle.fdw_api.specs.Scan.{row_fits};
-ghost use Rattle.fdw_api.specs.Writes.{inserted, row_of_change_fits};
+ghost use Rattle.fdw_api.specs.Prelude.{row_fits, inserted, row_of_change_fits};
 ghost use Rattle.wrapper_parts.specs.Staged.{change_is};
 ghost use Rattle.csv_tables.specs.Cells.{line_of, record_cells, reads_as_null};
 ghost use Rattle.csv_tables.specs.CsvRecords.{Record, csv_text, is_whole};
 ghost use Rattle.csv_tables.specs.Shapes.{read_row, unless, hides_value, causes_behind};
 ghost use Rattle.csv_tables.specs.Content.{TellsCause};
-ghost use Rattle.csv_tables.specs.Held.{special, special_in};
 ghost use Rattle.csv_tables.specs.Flat.{header_in};
 ghost use Rattle.csv_tables.specs.Tables.{shape_is, record_at, records_of};
-ghost use Rattle.csv_tables.specs.Rewriting.{is_wide, left_by, rows_left, Gathers, HasWritten, Rewrites, rows_in};
+ghost use Rattle.wrapper_parts.specs.declared.fates.Fate.{Fate};
+ghost use Rattle.csv_tables.specs.Rewriting.{fates_of, AllWide, left_by, rows_left, Gathers, HasWritten, Rewrites, rows_in};
 
 use crate::cells::{field_text, reads_as_null};
 use crate::content::{first_header, push_fields};
 use crate::flat_fields::Fields;
 use crate::layout::Layout;
+use crate::plain::stay_plain;
 use crate::table::{CsvTable, Rows};
 use csv::{ByteRecord, Writer};
 use fdw_api::interface::Fault;
 use med_value::limits::{BYTE_LIMIT, ROW_LIMIT};
 use med_value::{Cause, ColType, NoMemory, Row};
 use std::alloc::Global;
-use wrapper_parts::{Fate, RowChange, keep_all, set_fate};
+use std::collections::BTreeMap;
+use wrapper_parts::RowChange;
 
-/// A sorted write: what it makes of each old record, and its new ones.
+/// A sorted write: what stands in the place of an old record, None for nothing, and the new records.
 #[derive(Drop)]
 struct Sorted {
-    fates: Vec<Fate<ByteRecord>>,
+    changed: BTreeMap<u64, Option<ByteRecord>>,
     fresh: Vec<ByteRecord>,
+    /// How many bytes of a text the records take that are new, in the place of an old one or not.
+    size: usize,
 }
 
-/// Records that are put together: their fields, and how many they are.
+/// Records that are put together: their fields, how many they are, and whether each is known to be what the writer would write as it stands.
 #[derive(Drop)]
 struct Gathered {
     fields: Fields,
     count: usize,
+    plain: bool,
 }
 
 /// What a kept write leaves: the header and the rows of its table, and the bytes of its blob.
@@ -75,40 +78,51 @@ fn record_of(alloc: Global, null: &str, row: &Row) -> Result<ByteRecord, Fault>
     Ok(fields)
 }
 
-/// Sorts changes to this many records by the records that they name, and makes records of the new rows.
-fn sort_changes(
-    alloc: Global,
-    layout: &Layout,
-    count: usize,
-    changes: Vec<RowChange>,
-) -> Result<Sorted, Fault>
+/// How many bytes of a text so many bytes and a record take, or the greatest number where they are more.
+fn with_size(size: usize, row: &ByteRecord) -> usize {
+    size.saturating_add(row.as_slice().len())
+        .saturating_add(row.len())
+}
+
+/// Sorts changes by the records that they name, and makes records of the new rows.
+fn sort_changes(alloc: Global, layout: &Layout, changes: Vec<RowChange>) -> Result<Sorted, Fault>
     requires { list_all (row_of_change_fits layout.now.kinds.items) (map change_is changes.items) ≡ true }
-    ensures fates { IfOk result (λ s. (rows : List Record) → map (read_row (shape_is layout.now)) (left_by s.fates.items rows)
+    ensures fates { IfOk result (λ s. (count : ℕ) (rows : List Record)
+        → map (read_row (shape_is layout.now)) (left_by (fates_of s.changed count) rows)
         ≡ rows_left (shape_is layout.now) rows (replicate count Fate.Keep) (map change_is changes.items)) }
     ensures fresh { IfOk result (λ s. map (read_row (shape_is layout.now)) (map fields_of s.fresh.items)
         ≡ flat_map (inserted (line_of (string_bytes layout.now.null))) (map change_is changes.items)) }
-    ensures wide { IfOk result (λ s. list_all (is_wide (length layout.now.kinds.items)) s.fates.items ≡ true) }
+    ensures wide { IfOk result (λ s. AllWide (length layout.now.kinds.items) s.changed) }
     ensures fresh_wide { IfOk result (λ s. list_all (is_whole (length layout.now.kinds.items)) (map fields_of s.fresh.items) ≡ true) }
     ensures clear { IfOk result (λ s. list_any (hides_value (string_bytes layout.now.null)) (map change_is changes.items) ≡ false) }
     ensures err { IfErr result (λ fault. TellsCause fault
         (unless (not (list_any (hides_value (string_bytes layout.now.null)) (map change_is changes.items))) NotInState [])) }
 {
-    let mut fates = keep_all(alloc, count)?;
+    let mut changed = BTreeMap::new(alloc);
     let mut fresh = Vec::new(alloc);
+    let mut size = 0;
     for change in changes {
         match change {
             RowChange::Insert(row) => {
                 let line = record_of(alloc, &layout.null, &row)?;
+                size = with_size(size, &line);
                 fresh.push(line)?;
             }
             RowChange::Update(id, row) => {
                 let line = record_of(alloc, &layout.null, &row)?;
-                set_fate(&mut fates, id, Fate::Change(line));
+                size = with_size(size, &line);
+                changed.insert(id, Some(line))?;
             }
-            RowChange::Delete(id) => set_fate(&mut fates, id, Fate::Gone),
+            RowChange::Delete(id) => {
+                changed.insert(id, None)?;
+            }
         }
     }
-    Ok(Sorted { fates, fresh })
+    Ok(Sorted {
+        changed,
+        fresh,
+        size,
+    })
 }
 
 /// Appends a record.
@@ -122,6 +136,7 @@ fn gather(gathered: &mut Gathered, row: &ByteRecord) -> Result<(), NoMemory>
 {
     push_fields(&mut gathered.fields, row)?;
     gathered.count += 1;
+    gathered.plain = stay_plain(gathered.plain, row);
     Ok(())
 }
 
@@ -136,44 +151,60 @@ fn with_kept(gathered: Gathered, rows: &Rows, from: usize, to: usize) -> Result<
     ensures rows { (done : List Record) → Gathers rows.now.width done gathered
         → IfOk result (λ g. Gathers rows.now.width (done ++ take (to - from) (drop from (records_of rows.now))) g) }
 {
-    let Gathered { fields, count } = gathered;
+    let Gathered {
+        fields,
+        count,
+        plain,
+    } = gathered;
     let _fields = rows.fields.len();
     let fields = fields.with_range(&rows.fields, from * rows.width, to * rows.width)?;
     Ok(Gathered {
         fields,
         count: count + (to - from),
+        plain: plain && rows.plain,
     })
 }
 
-/// The old records that are left, as their fates say. Those that a write leaves are copied as they stand, as many as stand together at once.
-fn rewritten(alloc: Global, rows: &Rows, fates: Vec<Fate<ByteRecord>>) -> Result<Gathered, NoMemory>
-    requires { list_all (is_wide rows.now.width) fates.items ≡ true }
-    ensures { IfOk result (λ g. Gathers rows.now.width (left_by fates.items (records_of rows.now)) g) }
+/// No records, with room for those of a table and for so many new ones, which take so many bytes, so that none of them is copied twice.
+fn with_room(alloc: Global, rows: &Rows, fresh: usize, size: usize) -> Result<Gathered, NoMemory>
+    ensures none { IfOk result (λ g. g.count ≡ 0) }
+    ensures rows { IfOk result (λ g. Gathers rows.now.width [] g) }
 {
-    let mut gathered = Gathered {
-        fields: Fields::new(alloc),
+    let old = rows.fields.len();
+    let size = size.saturating_add(rows.fields.text(0, old).len());
+    let places = fresh.saturating_mul(rows.width).saturating_add(old);
+    Ok(Gathered {
+        fields: Fields::with_room(alloc, size, places)?,
         count: 0,
-    };
-    let mut from = 0;
+        plain: rows.plain,
+    })
+}
+
+/// The old records that are left, behind none. Those between two changed ones are copied at once, as they stand, and none of them is looked at.
+fn rewritten(
+    none: Gathered,
+    rows: &Rows,
+    changed: BTreeMap<u64, Option<ByteRecord>>,
+) -> Result<Gathered, NoMemory>
+    requires none { none.count ≡ 0 }
+    requires gathers { Gathers rows.now.width [] none }
+    requires wide { AllWide rows.now.width changed }
+    ensures { IfOk result (λ g. Gathers rows.now.width (left_by (fates_of changed rows.now.count) (records_of rows.now)) g) }
+{
+    let mut gathered = none;
     let mut at = 0;
-    for fate in fates {
-        if at < rows.count {
-            match fate {
-                Fate::Keep => {}
-                Fate::Change(new) => {
-                    gathered = with_kept(gathered, rows, from, at)?;
-                    gather(&mut gathered, &new)?;
-                    from = at + 1;
-                }
-                Fate::Gone => {
-                    gathered = with_kept(gathered, rows, from, at)?;
-                    from = at + 1;
-                }
+    for (id, line) in changed {
+        let place = id as usize;
+        if place < rows.count {
+            gathered = with_kept(gathered, rows, at, place)?;
+            match line {
+                Some(new) => gather(&mut gathered, &new)?,
+                None => {}
             }
-            at += 1;
+            at = place + 1;
         }
     }
-    with_kept(gathered, rows, from, at)
+    with_kept(gathered, rows, at, rows.count)
 }
 
 /// Whether these are too many rows for a table.
@@ -235,39 +266,6 @@ fn line_anew(alloc: Global, row: &ByteRecord) -> Result<Vec<u8>, NoMemory>
     }
 }
 
-/// One for a byte that the writer sets apart, none for another.
-fn special(byte: u8) -> usize
-    ensures { result ≡ special byte }
-{
-    match byte {
-        b'\n' | b'\r' | b'"' | b',' => 1,
-        _ => 0,
-    }
-}
-
-/// How many bytes of a text the writer sets apart.
-fn special_in(text: &[u8]) -> usize
-    ensures { result ≡ special_in text.now }
-{
-    let mut count = 0;
-    for byte in text {
-        count += special(*byte);
-    }
-    count
-}
-
-/// Whether the records of a table are what the writer would write as they stand: no byte is set apart but those that end the fields, of
-/// which each record has some, so that it shows a byte.
-fn are_plain(rows: &Rows) -> bool
-    ensures { result ≡ true → csv_text (records_of rows.now) ≡ flat_map (λ field. field) (fields_of rows.now.fields) }
-{
-    let size = rows.fields.len();
-    if rows.width < 2 {
-        return false;
-    }
-    special_in(rows.fields.text(0, size)) == size
-}
-
 /// The blob of a header and rows, of which the writer writes each anew.
 fn image_anew(alloc: Global, header: &Option<ByteRecord>, rows: &Rows) -> Result<Vec<u8>, NoMemory>
     ensures { IfOk result (λ image. image.items ≡ csv_text (header_in header.now ++ records_of rows.now)) }
@@ -301,7 +299,7 @@ fn header_line(alloc: Global, header: &Option<ByteRecord>) -> Result<Vec<u8>, No
 fn image_of(alloc: Global, header: &Option<ByteRecord>, rows: &Rows) -> Result<Vec<u8>, NoMemory>
     ensures { IfOk result (λ image. image.items ≡ csv_text (header_in header.now ++ records_of rows.now)) }
 {
-    if !are_plain(rows) {
+    if !rows.plain {
         return image_anew(alloc, header, rows);
     }
     let mut image = header_line(alloc, header)?;
@@ -323,16 +321,26 @@ pub fn apply_changes(
     ensures err { IfErr result (λ fault. TellsCause fault (causes_behind (shape_is table.now.layout) (header_in table.now.header)
         (rows_in table.now) (map change_is changes.items))) }
 {
-    let Sorted { fates, fresh } = sort_changes(alloc, &table.layout, table.rows.count, changes)?;
-    let kept = rewritten(alloc, &table.rows, fates)?;
+    let Sorted {
+        changed,
+        fresh,
+        size,
+    } = sort_changes(alloc, &table.layout, changes)?;
+    let none = with_room(alloc, &table.rows, fresh.len(), size)?;
+    let kept = rewritten(none, &table.rows, changed)?;
     if are_too_many(kept.count, fresh.len()) {
         return Err(Fault::Refused(Cause::TooLarge));
     }
-    let Gathered { fields, count } = with_fresh(kept, fresh)?;
+    let Gathered {
+        fields,
+        count,
+        plain,
+    } = with_fresh(kept, fresh)?;
     let rows = Rows {
         width: table.rows.width,
         fields,
         count,
+        plain,
     };
     let image = image_of(alloc, &table.header, &rows)?;
     if image.len() > BYTE_LIMIT {

@@ -3,19 +3,16 @@ use Rattle.std.proofs.Common.{◌≡◌, ◌≢◌, ℕ, ◌+◌, ◌<◌, ◌�
 use Rattle.std.specs.List.{list_all, list_any, AllByRecursion}
 use Rattle.std.proofs.lemmas.Bool.Decides.{eqb_tells}
 use Rattle.std.proofs.lemmas.List.Elements.{All-contains, All-from_recursion}
-use Rattle.med_value.specs.Causes.{phase_of}
-use Rattle.med_value.specs.Datum.{Tuple, cell, tuple}
+use Rattle.std.proofs.lemmas.Option.{same_Some}
+use Rattle.med_value.specs.Prelude.{phase_of, Tuple, cell, tuple}
 use Rattle.med_value.specs.declared.value.Row.{Row}
 use Rattle.med_value.specs.declared.order.Comparison.TheVariants as comparisons
 use Rattle.med_value.specs.declared.value.ColType.{ColType}
-use Rattle.fdw_api.specs.Scan.{Spec, RestrictionForm, TestForm, Compares, Missing, Present, Given, Slot, TableRow, checks, shown_cells}
+use Rattle.fdw_api.specs.Prelude.{Spec, RestrictionForm, TestForm, Compares, Missing, Present, Given, Slot, TableRow, checks, shown_cells, Column, OptionForm, Bytes, Held, held, Change, is_late, is_of_run, IsLeast, rows_after}
 use Rattle.fdw_api.specs.declared.scan.Agree.{Agree}
 use Rattle.fdw_api.specs.declared.scan.Agree.TheVariants.{Exact}
 use Rattle.med_value.specs.declared.cause.Cause.{Cause}
 use Rattle.med_value.specs.declared.cause.Cause.TheVariants.{InvalidFormat, InvalidText, TooLarge}
-use Rattle.fdw_api.specs.Kinds.{Column, OptionForm, Bytes, Held, held, Change, is_late, is_of_run}
-use Rattle.fdw_api.specs.Calls.{IsLeast}
-use Rattle.fdw_api.specs.Writes.{rows_after}
 use Rattle.fdw_api.specs.declared.interface.Fault.{Fault}
 use Rattle.fdw_api.specs.declared.interface.Fault.TheVariants.{NoMemory, Source, Refused}
 use Rattle.csv_tables.specs.declared.table.CsvTable.{CsvTable}
@@ -32,7 +29,6 @@ use Rattle.csv_tables.specs.Scans.{comes}
 use Rattle.csv_tables.proofs.Applying.{origins}
 use Rattle.csv_tables.proofs.Placing.{row_there, rows_count}
 use Rattle.csv_tables.proofs.Headers.{heading_is_header}
-use Rattle.place_wrapper.proofs.Options.{some_inj}
 use Rattle.place_wrapper.proofs.Rows.{here}
 use Rattle.place_wrapper.specs.Forms.{GivesAt, HasAt, ReadsAs, RefusesContent, Rewrites, RefusesChanges}
 use Rattle.csv_wrapper.specs.CsvKind.{csv_refusals, unless_of_run, three_of_run}
@@ -231,7 +227,7 @@ pub shows_row : (t : CsvPlaces) (at : ℕ) (spec : Spec) (params : Tuple) (o : O
 shows_row t at spec params o None lt eo h e is = absurd cc
 shows_row t at spec params o (Some row) lt eo h e is = λ r there. (
   takes_row t.table at spec params o r lt eo there h e,
-  some_inj (tuple row) (shown_cells spec (cells_at t.table at)) is ∙ ap (λ (cells : Tuple). shown_cells spec cells) (cells_there t.table at r lt there),
+  same_Some (tuple row) (shown_cells spec (cells_at t.table at)) is ∙ ap (λ (cells : Tuple). shown_cells spec cells) (cells_there t.table at r lt there),
 )
 
 -- the row at a place has what is looked for: so have the cells of its record

@@ -1,7 +1,6 @@
 -- What is answered, told by the types of a bound table.
 use Rattle.std.proofs.Common.{◌≡◌, List, Option, Some, None, IfSome, map, option_map}
-use Rattle.fdw_api.specs.Scan.{RestrictionForm}
-use Rattle.fdw_api.specs.State.{BoxTable}
+use Rattle.fdw_api.specs.Prelude.{RestrictionForm, BoxTable}
 use Rattle.fdw_api.specs.declared.scan.Agree.{Agree}
 use Rattle.csv_tables.specs.Scans.{answer_by}
 use Rattle.csv_wrapper.specs.declared.places.CsvPlaces.{CsvPlaces}

@@ -1,8 +1,7 @@
 -- As what a CSV table is bound.
 use Rattle.std.specs.Prelude.{ℕ, true, List}
 use Rattle.std.specs.String.{string_bytes}
-use Rattle.fdw_api.specs.Kinds.{as_they_come}
-use Rattle.fdw_api.specs.State.{BoxTable}
+use Rattle.fdw_api.specs.Prelude.{as_they_come, BoxTable}
 use Rattle.csv_tables.specs.declared.table.CsvTable.{CsvTable}
 use Rattle.csv_tables.specs.Cells.{line_of}
 use Rattle.csv_tables.specs.Shapes.{Shape, csv_image}

@@ -3,16 +3,12 @@ use Rattle.std.specs.Prelude.{◌≡◌, ℕ, ℤ, Bool, true, false, not, ◌&&
 use Rattle.std.specs.List.{flat_map, list_all, list_any}
 use Rattle.std.specs.Str.{is_utf8, bytes_eq}
 use mathlib.Core.Path.{refl, ap, ◌∙◌}
-use Rattle.med_value.specs.Causes.{phase_of}
-use Rattle.med_value.specs.Datum.{Datum, NoValue, Whole, Chars, Logic}
+use Rattle.med_value.specs.Prelude.{phase_of, Datum, NoValue, Whole, Chars, Logic, row_limit, byte_limit}
 use Rattle.med_value.specs.declared.cause.Cause.{Cause}
 use Rattle.med_value.specs.declared.cause.Cause.TheVariants.{InvalidOptionName, InvalidOptionValue, NotInState, TooLarge}
 use Rattle.med_value.specs.declared.value.ColType.{ColType}
 use Rattle.med_value.specs.declared.value.ColType.TheVariants as types
-use Rattle.med_value.specs.Limits.{row_limit, byte_limit}
-use Rattle.fdw_api.specs.Scan.{TableRow, row_fits, has_kind, is_clean}
-use Rattle.fdw_api.specs.Kinds.{Kind, OptionForm, Entry, Bytes, Stored, Change, Refusals, all_fit, as_they_come, is_of_run}
-use Rattle.fdw_api.specs.Writes.{rows_after}
+use Rattle.fdw_api.specs.Prelude.{TableRow, row_fits, has_kind, is_clean, Kind, OptionForm, Entry, Bytes, Stored, Change, Refusals, all_fit, as_they_come, is_of_run, rows_after}
 use Rattle.csv_tables.specs.Cells.{cell_of, record_cells, line_of, field_value, integer_of, truth_of, without_spaces}
 use Rattle.csv_tables.specs.CsvRecords.{Record, csv_records, body, heading}
 use Rattle.csv_tables.specs.Shapes.{Shape, shape_of, read_row, unless, csv_reading, records_in, image_bytes, csv_image, hides_value, causes_behind}

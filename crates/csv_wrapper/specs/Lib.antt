@@ -2,3 +2,4 @@ pub mod CsvKind
 pub mod Bound
 pub mod Places
 pub mod CsvBoxes
+pub mod Rising

@@ -6,8 +6,7 @@ use Rattle.std.specs.String.{string_bytes}
 use mathlib.Core.Path.{refl, ap, sym, ◌∙◌}
 use Rattle.med_value.specs.Datum.{Tuple}
 use Rattle.med_value.specs.declared.cause.Cause.TheVariants.{TableNotFound}
-use Rattle.fdw_api.specs.Scan.{TableRow, Spec, row_fits, meets_all, meets_exact}
-use Rattle.fdw_api.specs.Kinds.{Entry}
+use Rattle.fdw_api.specs.Prelude.{TableRow, Spec, row_fits, meets_all, meets_exact, Entry}
 use Rattle.csv_tables.specs.declared.table.CsvTable.{CsvTable}
 use Rattle.csv_tables.specs.CsvRecords.{Record, heading}
 use Rattle.csv_tables.specs.Shapes.{Shape, records_in}

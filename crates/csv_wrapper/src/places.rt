@@ -3,13 +3,16 @@ ghost use Rattle.std.specs.Prelude.{◌≡◌, ◌<◌, true, map, option_map, S
 ghost use Rattle.med_value.specs.Datum.{Tuple, datum, tuple, cell};
 ghost use Rattle.fdw_api.specs.Scan.{restriction_form, spec_of, shown_cells};
 ghost use Rattle.csv_tables.specs.CsvRecords.{Record};
+ghost use Rattle.csv_tables.specs.Rises.{first_column};
 ghost use Rattle.csv_tables.specs.Scans.{comes};
 ghost use Rattle.csv_tables.specs.Tables.{cells_at, fields_at};
 ghost use Rattle.wrapper_parts.specs.Places.{equals};
 ghost use Rattle.wrapper_parts.specs.Scans.{SoughtForm, form_of, sought, has_sought};
+ghost use Rattle.csv_wrapper.specs.Rising.{AreTold};
 
 use csv_tables::content::{Content, read_content};
 use csv_tables::layout::Layout;
+use csv_tables::rises::{first_rises, stays_rising};
 use csv_tables::scan::{answer_to, comes, may_equal, show};
 use csv_tables::table::CsvTable;
 use csv_tables::written::{Written, apply_changes};
@@ -24,6 +27,9 @@ use wrapper_parts::{RowChange, Sought, value_at};
 #[derive(Drop)]
 pub struct CsvPlaces {
     table: CsvTable,
+    /// Whether the first column is known to rise.
+    rises: bool,
+    ghost risen: { rises ≡ true → AreTold (first_column table) },
 }
 
 /// A CSV table after changes, and the image that is read again as it.
@@ -176,7 +182,8 @@ impl PlacedTable for CsvPlaces {
             header,
             rows,
         };
-        Ok(CsvPlaces { table })
+        let rises = first_rises(alloc, &table);
+        Ok(CsvPlaces { table, rises })
     }
 
     fn remote(&self) -> &str {
@@ -185,6 +192,10 @@ impl PlacedTable for CsvPlaces {
 
     fn count(&self) -> usize {
         self.table.rows.count
+    }
+
+    fn rises(&self) -> bool {
+        self.rises
     }
 
     fn answer(&self, restriction: &Restriction) -> Agree {
@@ -231,6 +242,7 @@ impl PlacedTable for CsvPlaces {
     fn rewritten(&self, alloc: Global, changes: Vec<RowChange>) -> Result<CsvDraft, Fault> {
         let remote = self.table.remote.as_str().to_string(alloc)?;
         let layout = self.table.layout.copy(alloc)?;
+        let rises = stays_rising(alloc, &self.table, self.rises, &changes);
         let written = match apply_changes(alloc, &self.table, changes) {
             Ok(written) => written,
             Err(fault) => return Err(fault),
@@ -247,7 +259,7 @@ impl PlacedTable for CsvPlaces {
             rows,
         };
         Ok(CsvDraft {
-            after: CsvPlaces { table },
+            after: CsvPlaces { table, rises },
             image,
         })
     }

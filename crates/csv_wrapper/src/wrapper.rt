@@ -1,8 +1,6 @@
 //! The wrapper of CSV blobs.
 ghost use Rattle.std.specs.Prelude.{◌≡◌, map, length, true, IfOk, IfErr, IfSome, IsSome};
-ghost use Rattle.fdw_api.specs.Scan.{restriction_form, spec_by};
-ghost use Rattle.fdw_api.specs.State.{table_of};
-ghost use Rattle.fdw_api.specs.Calls.{Allows};
+ghost use Rattle.fdw_api.specs.Prelude.{restriction_form, spec_by, table_of, Allows};
 ghost use Rattle.csv_tables.specs.Scans.{answer_by};
 
 use crate::places::CsvPlaces;

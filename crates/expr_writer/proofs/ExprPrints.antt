@@ -19,12 +19,8 @@ use Rattle.med_syntax.specs.declared.expr.Joint.{Joint}
 use Rattle.med_syntax.specs.declared.expr.Joint.TheVariants.{Or, And}
 use Rattle.med_value.specs.declared.operators.Status.{Status}
 use Rattle.med_value.specs.declared.operators.Status.TheVariants as statuses
-use Rattle.med_syntax.specs.Shapes.{shapes}
-use Rattle.med_syntax.specs.Words.{is_reserved}
-use Rattle.med_syntax.specs.Terminal.{Terminal, terminal_of, mark_terminal, word_terminal, IsTerminal, AreTerminals}
+use Rattle.med_syntax.specs.Prelude.{shapes, is_reserved, Terminal, terminal_of, mark_terminal, word_terminal, IsTerminal, AreTerminals, ExprTree, ExprTrees, num, negative, text, truth, null, column, call_all, call, paren, minus, binary, between, among, like, compare, tested, negation, chain, none, more, perhaps_not, status_terminal, spelling, parts_spelling, spellings, HasExpr, in_range, are_in_range}
 use Rattle.med_syntax.specs.Terminal as t
-use Rattle.med_syntax.specs.ExprTree.{ExprTree, ExprTrees, num, negative, text, truth, null, column, call_all, call, paren, minus, binary, between, among, like, compare, tested, negation, chain, none, more, perhaps_not, status_terminal, spelling, parts_spelling, spellings}
-use Rattle.med_syntax.specs.ExprGrammar.{HasExpr, in_range, are_in_range}
 use Rattle.expr_writer.specs.ExprPrinting.{binary_mark, compare_mark, shape_for, shapes_for, printed_expr, Wrote}
 
 -- ---- writing one after the other

@@ -11,11 +11,10 @@ use Rattle.med_value.specs.declared.operators.Operation.TheVariants.{Add, Subtra
 use Rattle.med_value.specs.declared.order.Comparison.{Comparison}
 use Rattle.med_value.specs.declared.order.Comparison.TheVariants.{Equal, Apart, Below, AtMost, Above, AtLeast}
 use Rattle.med_syntax.specs.declared.expr.Joint.TheVariants.{Or, And}
-use Rattle.med_syntax.specs.Terminal.{Terminal}
+use Rattle.med_syntax.specs.Prelude.{Terminal, ExprTree, status_terminal, spelling}
 use Rattle.med_syntax.specs.Terminal as t
 use Rattle.expr_writer.specs.declared.writer.Fixed.{Fixed}
 use Rattle.expr_writer.specs.declared.writer.Fixed.TheVariants as f
-use Rattle.med_syntax.specs.ExprTree.{ExprTree, status_terminal, spelling}
 
 abbrev pub binary_mark : Operation → Mark
 binary_mark Add = marks.Plus

@@ -7,9 +7,8 @@ ghost use Rattle.med_lexer.specs.Lexemes.{between};
 ghost use Rattle.med_lexer.specs.Printing.{raw_of};
 ghost use Rattle.med_syntax.specs.Terminal as t;
 ghost use Rattle.med_syntax.specs.ExprTree.{call, call_all, paren, chain, between as tree_between, among, like, tested, more};
-ghost use Rattle.med_syntax.specs.ExprTree.{spelling, spellings, parts_spelling, column_spelling, perhaps_not};
+ghost use Rattle.med_syntax.specs.Prelude.{spelling, spellings, parts_spelling, column_spelling, perhaps_not, expr_tree, expr_trees};
 ghost use Rattle.expr_writer.specs.ExprPrinting.{Writes, fixed_terminal, shape_for};
-ghost use Rattle.med_syntax.specs.ExprView.{expr_tree, expr_trees};
 
 use med_syntax::{Expr, Joint};
 use med_value::{Comparison, Operation, Status};

@@ -1,7 +1,6 @@
 -- One connection more.
 use Rattle.std.proofs.Common.{◌≡◌, ℕ, Bool, true, false, List, [], ◌∷◌, ◌++◌, ◌&&◌, Option, Result, is_ok, refl, sym, ap, ◌∙◌, subst}
-use Rattle.med_session.specs.World.{World}
-use Rattle.med_session.specs.Engine.{Shown, Agrees}
+use Rattle.med_session.specs.Prelude.{World, Shown, Agrees}
 use Rattle.fed_cli.specs.Exits.{TellsRun, Written, WritesRun}
 use Rattle.fed_cli.proofs.Called.{run_told}
 use Rattle.fed_stream.specs.Outlets.{Outlet}

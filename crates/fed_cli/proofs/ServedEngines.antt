@@ -2,10 +2,8 @@
 use Rattle.std.proofs.Common.{◌≡◌, ℕ, Bool, true, false, cond, List, [], Option, Some, None, Result, Err, refl, sym, subst}
 use Rattle.fdw_api.specs.State.{BoxState}
 use Rattle.med_exec.specs.Slots.{states}
-use Rattle.med_session.specs.World.{World, without_sessions}
-use Rattle.med_session.specs.Engine.{Shown, Agrees, EachRises, ClosesAll}
+use Rattle.med_session.specs.Prelude.{World, without_sessions, Shown, Agrees, EachRises, ClosesAll, shown}
 use Rattle.med_world.proofs.Faring.{none_rises, rise_twice}
-use Rattle.med_session.specs.Shows.{shown}
 use Rattle.med_session.specs.declared.engine.Engine.{Engine}
 use Rattle.session_wire.specs.Lines.{lines_within}
 use Rattle.session_wire.specs.Engines.{EngineSteps, EngineEnds}

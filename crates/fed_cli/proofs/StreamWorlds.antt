@@ -1,9 +1,7 @@
 -- What is served over an engine is served over each world that it stands for.
 use Rattle.std.proofs.Common.{ℕ, List, ◌++◌, Option, Some, Result, Ok, Err}
 use Rattle.fdw_api.specs.State.{BoxState}
-use Rattle.med_session.specs.World.{World}
-use Rattle.med_session.specs.Engine.{Agrees}
-use Rattle.med_session.specs.Shows.{shown}
+use Rattle.med_session.specs.Prelude.{World, Agrees, shown}
 use Rattle.med_session.specs.declared.engine.Engine.{Engine}
 use Rattle.session_wire.specs.Engines.{EngineSteps, EngineEnds}
 use Rattle.session_wire.specs.Run.{Fed, BrokenOff}

@@ -1,8 +1,7 @@
 -- What a stream served over an engine is, in the direct meaning of SQL over worlds.
 use Rattle.std.specs.Prelude.{◌≡◌, ℕ, List, [], Option, Result, Ok}
 use Rattle.fdw_api.specs.State.{BoxState}
-use Rattle.med_session.specs.World.{World, without_sessions}
-use Rattle.med_session.specs.Engine.{Shown, Agrees, EachRises}
+use Rattle.med_session.specs.Prelude.{World, without_sessions, Shown, Agrees, EachRises}
 use Rattle.session_wire.specs.Worlds.{SceneSteps, SceneEnds}
 use Rattle.fed_stream.specs.Streams.{Stream}
 use Rattle.fed_stream.specs.Served.{Serves}

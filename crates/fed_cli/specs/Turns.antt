@@ -1,7 +1,6 @@
 -- Connections that are served one after the other.
 use Rattle.std.specs.Prelude.{◌≡◌, ◌<◌, ℕ, Bool, true, List, [], ◌∷◌, ◌&&◌, Option, Result, Ok, Err}
-use Rattle.med_session.specs.World.{World}
-use Rattle.med_session.specs.Engine.{Shown, Agrees}
+use Rattle.med_session.specs.Prelude.{World, Shown, Agrees}
 use Rattle.fed_cli.specs.Exits.{TellsRun}
 use Rattle.fed_stream.specs.Streams.{Stream, stream}
 use Rattle.fed_cli.specs.Told.{told_of}

@@ -3,9 +3,7 @@ ghost use Rattle.fed_stream.specs.Known.{Known};
 ghost use Rattle.fed_stream.specs.Calls.{ReadsStream, WritesStream};
 ghost use Rattle.fed_stream.specs.Streams.{stream};
 ghost use Rattle.fed_cli.specs.Kept.{KeepsServed};
-ghost use Rattle.med_session.specs.Engine.{IsSound, Agrees};
-ghost use Rattle.med_session.specs.Shows.{shown};
-ghost use Rattle.med_session.specs.World.{World};
+ghost use Rattle.med_session.specs.Prelude.{IsSound, Agrees, shown, World};
 
 use crate::worlds::served_worlds_follow;
 use crate::{Ended, StreamFault, serve_stream};

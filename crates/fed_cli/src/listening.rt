@@ -6,8 +6,7 @@ ghost use Rattle.fed_cli.specs.Exits.{TellsText};
 ghost use Rattle.fed_stream.specs.Known.{Known};
 ghost use Rattle.fed_stream.specs.declared.source.GivenUp.{GivenUp};
 ghost use Rattle.fed_cli.specs.Listens.{CallsPort, IsLocal, Listens, listened, port_line};
-ghost use Rattle.med_session.specs.Engine.{IsSound};
-ghost use Rattle.med_session.specs.Shows.{shown};
+ghost use Rattle.med_session.specs.Prelude.{IsSound, shown};
 
 use crate::turns::{AcceptFault, Connections, Kept, serve_connections};
 use fdw_api::wishes::Wrapper2;

@@ -4,9 +4,7 @@ ghost use Rattle.fed_stream.specs.Known.{Known};
 ghost use Rattle.fed_stream.specs.Calls.{ReadsStream, WritesStream};
 ghost use Rattle.fed_stream.specs.Streams.{stream};
 ghost use Rattle.med_exec.specs.Slots.{states};
-ghost use Rattle.med_session.specs.Engine.{IsSound, Agrees, EachBox, IsAtRest};
-ghost use Rattle.med_session.specs.Shows.{shown};
-ghost use Rattle.med_session.specs.World.{World};
+ghost use Rattle.med_session.specs.Prelude.{IsSound, Agrees, EachBox, IsAtRest, shown, World};
 
 use crate::worlds::{fed_cursors_keep_their_tables, served_worlds_follow};
 use fdw_api::wishes::Wrapper2;

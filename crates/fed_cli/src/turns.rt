@@ -2,8 +2,7 @@
 ghost use Rattle.std.specs.Prelude.{List, length, IfOk, OnErr};
 ghost use Rattle.fed_stream.specs.Streams.{stream};
 ghost use Rattle.fed_cli.specs.Turns.{Turn, AreTaken, Ends, AreServed};
-ghost use Rattle.med_session.specs.Engine.{IsSound};
-ghost use Rattle.med_session.specs.Shows.{shown};
+ghost use Rattle.med_session.specs.Prelude.{IsSound, shown};
 
 use crate::kept::serve_kept;
 use crate::telling::tell_run;

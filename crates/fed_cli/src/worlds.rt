@@ -2,9 +2,7 @@
 ghost use Rattle.std.specs.Prelude.{◌≡◌, ◌++◌, ℕ, List, Option, Result};
 ghost use Rattle.session_wire.specs.Exchanges.{Exchange, Exchanged, texts_in, replies_in, texts_of, end_reply};
 ghost use Rattle.session_wire.specs.Runs.{KeepsCursors};
-ghost use Rattle.med_session.specs.World.{World};
-ghost use Rattle.med_session.specs.Engine.{Agrees};
-ghost use Rattle.med_session.specs.Shows.{shown};
+ghost use Rattle.med_session.specs.Prelude.{World, Agrees, shown};
 ghost use Rattle.med_session.specs.declared.engine.Engine.{Engine};
 ghost use Rattle.session_wire.specs.Engines.{EngineSteps, EngineEnds};
 ghost use Rattle.session_wire.specs.Lines.{lines_of};

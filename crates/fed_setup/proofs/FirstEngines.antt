@@ -1,18 +1,14 @@
 -- The engine that a program begins with, and the demo list in it.
 use Rattle.std.proofs.Common.{◌≡◌, ◌≢◌, arith, ℕ, Bool, true, false, ◌||◌, cond, List, [], ◌∷◌, ◌++◌, length, Option, Some, None, option_map, Result, Ok, Err, OnOk, IfErr, Bor, refl, sym, ap, ◌∙◌, subst, inl, inr}
-use Rattle.fdw_api.specs.Kinds.{Kind}
-use Rattle.fdw_api.specs.State.{BoxState}
+use Rattle.fdw_api.specs.Prelude.{Kind, BoxState}
 use Rattle.med_syntax.specs.DdlTree.{TableTree}
 use Rattle.med_value.specs.declared.cause.Cause.{Cause}
 use Rattle.med_value.specs.declared.cause.Cause.TheVariants.{InvalidOptionName}
-use Rattle.med_catalog.specs.DdlCauses.{CauseRow, Stands, are_options_unknown, create_table_rows}
-use Rattle.med_catalog.specs.Objects.{Objects}
-use Rattle.med_catalog.specs.Options.{table_settings, column_settings}
+use Rattle.med_catalog.specs.Prelude.{CauseRow, Stands, are_options_unknown, create_table_rows, Objects, table_settings, column_settings}
 use Rattle.med_catalog.specs.declared.kind.SourceKind.{SourceKind}
 use Rattle.med_catalog.specs.declared.kind.SourceKind.TheVariants.{List as Lists}
 use Rattle.med_catalog.specs.declared.kind.SourceKind.TheVariants as sources
-use Rattle.med_world.specs.Adding.{HasSource, Adds}
-use Rattle.med_world.specs.Engine.{Shown, Label, IsSound, Agrees, TakesAs, state_of, sources_of}
+use Rattle.med_world.specs.Prelude.{HasSource, Adds, Shown, Label, IsSound, Agrees, TakesAs, state_of, sources_of}
 use Rattle.sql_meaning.specs.World.{World, SourceState, standing, shared, empty_world, with_source}
 use Rattle.med_session.specs.Adding.{AddCause}
 use Rattle.med_session.specs.declared.adding.AddFault.{AddFault}

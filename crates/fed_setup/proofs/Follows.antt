@@ -3,13 +3,8 @@ use Rattle.std.proofs.lemmas.Str.{is_utf8-from_IsUtf8, IsUtf8-from_is_utf8}
 use Rattle.std.specs.Str.{IsUtf8, is_utf8}
 use Rattle.std.proofs.Common.{◌≡◌, Bool, true, false, ℕ, List, [], ◌∷◌, Option, Some, None, option_map, Result, Ok, Err, refl, sym, ap, subst, lit≤}
 use Rattle.fdw_api.specs.State.{BoxState}
-use Rattle.med_session.specs.Requests.{AskedLine}
-use Rattle.med_session.specs.Replies.{Reply}
-use Rattle.med_session.specs.World.{World, Session, with_session}
-use Rattle.med_session.specs.Engine.{Agrees, Befell, EachRises}
-use Rattle.med_world.specs.Seats.{seat_of, user_of, SeatAgrees}
-use Rattle.med_world.specs.Open.{Seated}
-use Rattle.med_session.specs.Shows.{shown}
+use Rattle.med_session.specs.Prelude.{AskedLine, Reply, World, Session, with_session, Agrees, Befell, EachRises, shown}
+use Rattle.med_world.specs.Prelude.{seat_of, user_of, SeatAgrees, Seated}
 use Rattle.med_session.specs.declared.engine.Engine.{Engine}
 use Rattle.med_world.proofs.Faring.{none_rises, rise_twice}
 use Rattle.session_wire.specs.Engines.{EngineRises}

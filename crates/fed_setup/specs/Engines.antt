@@ -1,12 +1,7 @@
 -- What the requests of a replay and the close of its session do, to an engine, and to a world over what its boxes show.
 use Rattle.std.specs.Prelude.{◌≡◌, ℕ, None}
 use Rattle.fdw_api.specs.State.{BoxState}
-use Rattle.med_session.specs.Requests.{AskedLine}
-use Rattle.med_session.specs.Replies.{Reply}
-use Rattle.med_session.specs.Steps.{Trouble, Step}
-use Rattle.med_session.specs.World.{with_session}
-use Rattle.med_session.specs.Engine.{Leads, Closes, Befell, EachRises}
-use Rattle.med_session.specs.Shows.{shown}
+use Rattle.med_session.specs.Prelude.{AskedLine, Reply, Trouble, Step, with_session, Leads, Closes, Befell, EachRises, shown}
 use Rattle.med_session.specs.declared.engine.Engine.{Engine}
 use Rattle.session_wire.specs.Worlds.{Scene}
 use Rattle.fed_setup.specs.Replays.{session}

@@ -3,8 +3,7 @@ use Rattle.std.specs.Prelude.{◌≡◌, ◌≢◌, ℕ, List, [], ◌∷◌, �
 use Rattle.std.specs.Str.{is_utf8}
 use Rattle.med_value.specs.declared.cause.Cause.{Cause}
 use Rattle.med_value.specs.declared.cause.Cause.TheVariants.{OutOfMemory}
-use Rattle.med_session.specs.Requests.{AskedLine, opening, sql}
-use Rattle.med_session.specs.Replies.{Reply, refused}
+use Rattle.med_session.specs.Prelude.{AskedLine, opening, sql, Reply, refused}
 use Rattle.fed_setup.specs.Scripts.{Numbered, statement_lines}
 use Rattle.fed_setup.specs.declared.script.ScriptFault.{ScriptFault}
 use Rattle.fed_setup.specs.declared.script.ScriptFault.TheVariants as fault

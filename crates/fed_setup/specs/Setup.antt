@@ -4,8 +4,7 @@ use Rattle.std.specs.Prelude.{◌≡◌, ◌≢◌, ◌<◌, ◌⊎◌, ℕ, Boo
 use Rattle.std.specs.Borrow.{Bor}
 use Rattle.fdw_api.specs.State.{BoxState}
 use Rattle.med_catalog.specs.declared.kind.SourceKind.TheVariants as kinds
-use Rattle.med_world.specs.Adding.{HasSource}
-use Rattle.med_world.specs.Engine.{Label, Shown, Agrees}
+use Rattle.med_world.specs.Prelude.{HasSource, Label, Shown, Agrees}
 use Rattle.sql_meaning.specs.World.{World, SourceState, standing, shared, empty_world, with_source}
 use Rattle.blob_store.specs.Drives.{Drive}
 use Rattle.blob_store.specs.Files.{folder_shelf}

@@ -1,8 +1,6 @@
 //! The init file: how it is read, and how its script is replayed.
 ghost use Rattle.std.specs.Prelude.{IfOk, IfErr, option_map};
-ghost use Rattle.med_session.specs.World.{World};
-ghost use Rattle.med_session.specs.Engine.{IsSound, Agrees};
-ghost use Rattle.med_session.specs.Shows.{shown};
+ghost use Rattle.med_session.specs.Prelude.{World, IsSound, Agrees, shown};
 ghost use Rattle.session_wire.specs.Worlds.{scene_of};
 ghost use Rattle.fed_setup.specs.Setup.{IsReadOf, ReadsNot, ReplaysInit};
 

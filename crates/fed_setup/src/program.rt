@@ -1,11 +1,8 @@
 //! What a program begins with.
 ghost use Rattle.std.specs.Prelude.{◌≡◌, List, [], ◌∷◌, ◌++◌, IfOk, IfErr, OnOk, option_map, map};
-ghost use Rattle.med_session.specs.Requests.{IsUser};
-ghost use Rattle.med_session.specs.World.{World};
+ghost use Rattle.med_session.specs.Prelude.{IsUser, World, IsSound, Agrees, shown, AddCause};
 ghost use Rattle.fdw_api.specs.State.{IsIdle};
-ghost use Rattle.med_session.specs.Engine.{IsSound, Agrees};
 ghost use Rattle.med_world.specs.Engine.{Label, TakesAs};
-ghost use Rattle.med_session.specs.Shows.{shown};
 ghost use Rattle.list_wrapper.specs.Lists.{IsNewList};
 ghost use Rattle.session_wire.specs.Worlds.{scene_of};
 ghost use Rattle.fed_setup.specs.Demo.{demo_list};
@@ -14,7 +11,6 @@ ghost use Rattle.fed_setup.specs.Setup.{Outside, HasDemo, HasList, IsFirst, HasN
 ghost use Rattle.fed_setup.specs.Setup.{BeginsBy, BeginsNot, IsReadOf, IsNewPlace, IsSetUp, SetUpFails, HasListAsked, labels_before, list_asked, list_label};
 ghost use Rattle.fed_setup.specs.Told.{added_of};
 ghost use Rattle.fed_words.specs.Words.{places_asked};
-ghost use Rattle.med_session.specs.Adding.{AddCause};
 ghost use Rattle.med_session.specs.declared.adding.AddFault.{AddFault};
 ghost use Rattle.fed_setup.specs.declared.told.RunFault.TheVariants as faults;
 

@@ -1,10 +1,7 @@
 //! The replay of a script.
 ghost use Rattle.std.specs.Prelude.{◌≡◌, None, IfErr, OnOk};
-ghost use Rattle.med_session.specs.Asking.{asked};
-ghost use Rattle.med_session.specs.World.{World};
-ghost use Rattle.med_session.specs.Engine.{IsSound, Agrees};
+ghost use Rattle.med_session.specs.Prelude.{asked, World, IsSound, Agrees, shown};
 ghost use Rattle.med_world.specs.Seats.{user_of};
-ghost use Rattle.med_session.specs.Shows.{shown};
 ghost use Rattle.session_wire.specs.Engines.{EngineRises};
 ghost use Rattle.session_wire.specs.Worlds.{scene_of};
 ghost use Rattle.fed_setup.specs.Scripts.{statement_lines};

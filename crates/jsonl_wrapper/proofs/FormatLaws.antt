@@ -1,17 +1,12 @@
 -- Tables of JSON lines as tables by place: their rows, and the causes against contents and changes.
 use Rattle.std.proofs.Common.{◌≡◌, ℕ, ◌+◌, ◌<◌, ◌≤◌, Bool, true, false, ◌&&◌, ◌++◌, List, [], ◌∷◌, Option, Some, None, length, map, get_or, slice_get, Contains, zero, suc, refl, ap, sym, ◌∙◌, arith, rules, string_bytes}
 use Rattle.std.specs.List.{list_all}
-use Rattle.med_value.specs.Causes.{phase_of}
+use Rattle.med_value.specs.Prelude.{phase_of, Tuple, tuple}
 use Rattle.med_value.specs.declared.cause.Cause.{Cause}
 use Rattle.med_value.specs.declared.cause.Cause.TheVariants.{NotInState, TooLarge, InvalidFormat, InvalidText}
-use Rattle.med_value.specs.Datum.{Tuple, tuple}
-use Rattle.fdw_api.specs.Scan.{Spec, shown_cells}
+use Rattle.fdw_api.specs.Prelude.{Spec, shown_cells, Column, OptionForm, Bytes, Held, held, Change, as_they_come, is_of_run, is_late, BoxTable, rows_after, IsLeast}
 use Rattle.wrapper_parts.specs.Scans.{takes}
 use Rattle.med_value.specs.declared.value.Row.{Row}
-use Rattle.fdw_api.specs.Kinds.{Column, OptionForm, Bytes, Held, held, Change, as_they_come, is_of_run, is_late}
-use Rattle.fdw_api.specs.State.{BoxTable}
-use Rattle.fdw_api.specs.Writes.{rows_after}
-use Rattle.fdw_api.specs.Calls.{IsLeast}
 use Rattle.fdw_api.specs.declared.interface.Fault.{Fault}
 use Rattle.fdw_api.specs.declared.interface.Fault.TheVariants.{NoMemory, Source, Refused}
 use Rattle.jsonl_wrapper.specs.declared.table.JsonTable.{JsonTable}

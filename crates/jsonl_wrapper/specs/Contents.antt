@@ -2,16 +2,13 @@
 use Rattle.std.specs.Prelude.{◌≡◌, ◌⊎◌, Contains, ℕ, ℤ, Bool, true, false, not, ◌&&◌, ◌||◌, List, [], ◌∷◌, ◌++◌, map, flat_map, length, Option, Some, None, is_some, option_map, option_and_then, unwrap_or, if◌then◌else◌, nat_eq, nat_lt}
 use mathlib.Core.Path.{refl, ap, ◌∙◌}
 use Rattle.std.specs.List.{list_all, list_any}
-use Rattle.med_value.specs.Datum.{Datum, NoValue, Whole, Chars, Logic, Tuple}
+use Rattle.med_value.specs.Prelude.{Datum, NoValue, Whole, Chars, Logic, Tuple, phase_of, row_limit, byte_limit}
 use Rattle.med_value.specs.declared.value.ColType.{ColType}
 use Rattle.med_value.specs.declared.value.ColType.TheVariants as types
 use Rattle.med_value.specs.declared.cause.Cause.{Cause}
 use Rattle.med_value.specs.declared.cause.Cause.TheVariants.{InvalidFormat, InvalidText, NotInState, TooLarge}
-use Rattle.med_value.specs.Causes.{phase_of}
-use Rattle.med_value.specs.Limits.{row_limit, byte_limit}
 use Rattle.fdw_api.specs.Scan.{has_kind, is_clean as no_zero, row_fits, TableRow}
-use Rattle.fdw_api.specs.Kinds.{Held, Reading, Change, Inserts, Updates, Deletes, all_fit, is_late}
-use Rattle.fdw_api.specs.Writes.{rows_after}
+use Rattle.fdw_api.specs.Prelude.{Held, Reading, Change, Inserts, Updates, Deletes, all_fit, is_late, rows_after}
 use Rattle.fdw_api.specs.declared.interface.Fault.{Fault}
 use Rattle.fdw_api.specs.declared.interface.Fault.TheVariants.{NoMemory, Source, Refused}
 use Rattle.serde_json.specs.Data.{Data}

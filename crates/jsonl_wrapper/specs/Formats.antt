@@ -6,9 +6,7 @@ use Rattle.std.specs.List.{list_all}
 use Rattle.med_value.specs.declared.cause.Cause.TheVariants.{TableNotFound}
 use Rattle.med_value.specs.declared.value.ColType.{ColType}
 use Rattle.med_value.specs.declared.value.ColType.TheVariants as types
-use Rattle.fdw_api.specs.Scan.{TableRow, RestrictionForm, TestForm, Compares, Missing, Present, row_fits}
-use Rattle.fdw_api.specs.Kinds.{as_they_come}
-use Rattle.fdw_api.specs.State.{BoxTable}
+use Rattle.fdw_api.specs.Prelude.{TableRow, RestrictionForm, TestForm, Compares, Missing, Present, row_fits, as_they_come, BoxTable}
 use Rattle.fdw_api.specs.declared.scan.Agree.{Agree}
 use Rattle.fdw_api.specs.declared.scan.Agree.TheVariants.{Exact, Ignored}
 use Rattle.wrapper_parts.specs.Scans.{takes}

@@ -1,5 +1,5 @@
 //! Lines as they are written, and what the integer columns read in them.
-ghost use Rattle.std.specs.Prelude.{◌∷◌, ◌++◌, [], ◌≤◌, ℕ, List, length, map, string_bytes, OnOk};
+ghost use Rattle.std.specs.Prelude.{◌∷◌, ◌++◌, [], ◌≤◌, ℕ, List, length, map, string_bytes, IfOk, OnOk};
 ghost use Rattle.std.specs.List.{slice_range};
 ghost use Rattle.jsonl_wrapper.specs.Fields.{Reader, reader_of};
 ghost use Rattle.jsonl_wrapper.specs.Changes.{IsWritten};
@@ -10,7 +10,7 @@ use crate::known::wholes_between;
 use crate::lines::Image;
 use crate::ranges::push_range;
 use crate::table::JsonTable;
-use crate::wholes::push_line;
+use crate::wholes::{count_wholes, push_line};
 use med_value::NoMemory;
 use std::alloc::Global;
 
@@ -23,14 +23,26 @@ pub struct LinesWritten {
 }
 
 impl LinesWritten {
-    /// No lines.
-    pub(crate) fn new(alloc: Global) -> LinesWritten
-        ensures { (readers : List Reader) → IsWritten readers result [] }
+    /// No lines, with room for those of a table and for so many new ones, which take so many bytes, so that none of them is copied twice.
+    /// It fails for want of memory alone.
+    pub(crate) fn with_room(
+        alloc: Global,
+        table: &JsonTable,
+        fresh: usize,
+        size: usize,
+    ) -> Result<LinesWritten, NoMemory>
+        ensures { IfOk result (λ made. (readers : List Reader) → IsWritten readers made []) }
     {
-        LinesWritten {
-            image: Image::new(alloc),
-            wholes: Vec::new(alloc),
-        }
+        // One byte more for the last line of a content, which may have no line feed.
+        let bytes = table.content.len().saturating_add(1).saturating_add(size);
+        let count = table.lines.len().saturating_add(fresh);
+        let wholes = fresh
+            .saturating_mul(count_wholes(&table.fields))
+            .saturating_add(table.wholes.len());
+        Ok(LinesWritten {
+            image: Image::with_room(alloc, bytes, count)?,
+            wholes: Vec::with_capacity(alloc, wholes)?,
+        })
     }
 
     /// One line more.

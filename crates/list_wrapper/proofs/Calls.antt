@@ -9,9 +9,7 @@ use Rattle.std.specs.FinMap as finmap
 use Rattle.std.proofs.lemmas.Bool.Decides.{eqb_tells}
 use Rattle.med_value.specs.Datum.{Tuple, tuple}
 use Rattle.med_value.specs.declared.value.ColType.{ColType}
-use Rattle.fdw_api.specs.Scan.{Spec, GivenRow, TableRow, IsComing, given_row, first_of, shown_cells, shown_fits, row_fits}
-use Rattle.fdw_api.specs.State.{BoxTable, Scan, scan_of}
-use Rattle.fdw_api.specs.Calls.{LeavesOthers, new_scan, Begins, RefusesBegin, GivesRow, GivesNone, Breaks, Rescans, Ends, row_of}
+use Rattle.fdw_api.specs.Prelude.{Spec, GivenRow, TableRow, IsComing, given_row, first_of, shown_cells, shown_fits, row_fits, BoxTable, Scan, scan_of, LeavesOthers, new_scan, Begins, RefusesBegin, GivesRow, GivesNone, Breaks, Rescans, Ends, row_of}
 use Rattle.fdw_api.specs.declared.interface.Fault.TheVariants.{NoMemory}
 use Rattle.fdw_api.specs.declared.interface.SourceRow.{SourceRow}
 use Rattle.list_wrapper.specs.declared.list.ListTable.{ListTable}

@@ -1,5 +1,5 @@
 -- What the end of a write does to a list wrapper.
-use Rattle.std.proofs.Common.{◌≡◌, ◌≢◌, ℕ, ◌+◌, ◌<◌, ◌≤◌, ◌⊎◌, Bool, true, false, not, ◌&&◌, nat_lt, List, [], ◌∷◌, Option, Some, None, IsSome, length, map, option_map, slice_get, slice_index_or, slice_set, zero, suc, refl, ap, sym, ◌∙◌, subst, rules, eqb, inl, inr, bytes_eq, Contains}
+use Rattle.std.proofs.Common.{◌≡◌, ◌≢◌, ℕ, ◌+◌, ◌<◌, ◌≤◌, ◌⊎◌, Bool, true, false, not, ◌&&◌, nat_lt, List, [], ◌∷◌, Option, Some, None, IsSome, length, map, option_map, slice_get, slice_index_or, slice_set, Result, Ok, Err, OnOk, OnErr, IfOk, IfErr, zero, suc, refl, ap, sym, ◌∙◌, subst, rules, eqb, inl, inr, bytes_eq, Contains}
 use Rattle.std.specs.List.{list_all}
 use Rattle.std.specs.Ordering.{nat_cmp}
 use Rattle.std.specs.String.{string_bytes}
@@ -9,21 +9,18 @@ use Rattle.std.proofs.lemmas.Bool.Decides.{eqb_tells}
 use lib.Pointwise.{bytes_decides}
 use Rattle.med_value.specs.Datum.{Tuple, tuple}
 use Rattle.med_value.specs.declared.value.Row.{Row}
-use Rattle.fdw_api.specs.Kinds.{Entry, Held, held, Known, Stored, Change, all_fit}
-use Rattle.fdw_api.specs.State.{BoxTable, Scan, Staging}
-use Rattle.fdw_api.specs.Scan.{row_fits, TableRow}
+use Rattle.fdw_api.specs.Prelude.{Entry, Held, held, Known, Stored, Change, all_fit, BoxTable, BoxState, Scan, Staging, row_fits, TableRow, GivenRow, NoScan, faults_after, CanClose, Closes, CloseCause, RefusesClose, row_of_change_fits, rows_after}
 use Rattle.med_value.specs.declared.value.ColType.{ColType}
-use Rattle.fdw_api.specs.Calls.{NoScan}
-use Rattle.fdw_api.specs.Writes.{CanClose, Closes, RefusesClose, row_of_change_fits, rows_after}
 use Rattle.med_value.specs.declared.cause.Cause.{Cause}
 use Rattle.med_value.specs.declared.cause.Cause.TheVariants.{TooLarge}
-use Rattle.fdw_api.specs.declared.interface.Fault.TheVariants.{Refused}
+use Rattle.fdw_api.specs.declared.interface.Fault.{Fault}
+use Rattle.fdw_api.specs.declared.interface.Fault.TheVariants.{NoMemory, Source, Refused}
 use Rattle.list_wrapper.specs.declared.list.ListTable.{ListTable}
 use Rattle.list_wrapper.specs.declared.scans.ListScan.{ListScan}
 use Rattle.list_wrapper.specs.declared.changes.ListWrite.{ListWrite}
-use Rattle.list_wrapper.specs.Lists.{entry_of, listed, rows_fit, names_differ, no_line, list_refusals}
-use Rattle.list_wrapper.specs.Changes.{as_held, change_is, write_is}
-use Rattle.list_wrapper.specs.Scans.{numbered, rows_at, listed_rows, listed_kinds, kinds_at, stored, bound_of, marked_bound, mapped, list_state, scan_rows, scan_is, write_fits, ScanFits, ScansFit}
+use Rattle.list_wrapper.specs.Lists.{Listed, entry_of, listed, rows_fit, names_differ, no_line, list_refusals}
+use Rattle.list_wrapper.specs.Changes.{as_held, change_is, write_is, StandsFor}
+use Rattle.list_wrapper.specs.Scans.{numbered, rows_at, listed_rows, listed_kinds, kinds_at, stored, bound_of, marked_bound, mapped, list_nature, list_state, scan_rows, scan_is, write_fits, ScanFits, ScansFit}
 use Rattle.list_wrapper.proofs.Numbered.{numbered_fit}
 use Rattle.list_wrapper.proofs.Maps.{mapped_get}
 use Rattle.list_wrapper.proofs.Calls.{rows_fit_at}
@@ -207,29 +204,62 @@ staged_scans tables bound m s staged keep next pulled es k can =
     let same : can.staging ≡ write_is s = some_inj can.staging (write_is s) (sym can.is_staged ∙ ap (option_map write_is) es) in
     subst (λ (z : Staging). NoScan (list_state tables bound m (Some s) next pulled) z.table) same (can.no_scan k)
 
-many_rows : (x y : ListTable) (s : ListWrite) (entry : Option Entry) → map as_held y.rows.items ≡ rows_after no_line (numbered 0 x.rows.items) (map change_is s.changes.items) → 1000000 < length y.rows.items → list_refusals.causes entry (numbered 0 x.rows.items) (map change_is s.changes.items) ≡ TooLarge ∷ []
-many_rows x y s entry e lt = rw (← e, length_map y.rows.items, many (length y.rows.items) lt) refl
+-- a table whose rows stay as they were, whatever room there is for more: nothing changes
+same_rows : (ts : List ListTable) (t q : ℕ) (x y : ListTable) → slice_get ts t ≡ Some x → y.rows.items ≡ x.rows.items → rows_at (slice_set ts t y) q ≡ rows_at ts q
+same_rows ts t q x y e s = split (eqb_tells q t)
   where
-    length_map : (l : List Row) → length (map as_held l) ≡ length l
-    length_map [] = refl
-    length_map (r ∷ l) = ap (λ (k : ℕ). suc k) (length_map l)
+    split : ((eqb q t ≡ true) × (q ≡ t)) ⊎ ((eqb q t ≡ false) × (q ≢ t)) → rows_at (slice_set ts t y) q ≡ rows_at ts q
+    split (inl w) = rw (w.1, set_there ts t x y e, e, s) refl
+    split (inr w) = ap listed_rows (set_other ts t q y w.1)
 
+pub same_listed : (ts : List ListTable) (t : ℕ) (x y : ListTable) → slice_get ts t ≡ Some x → y.name ≡ x.name → y.kinds ≡ x.kinds → y.rows.items ≡ x.rows.items → map listed (slice_set ts t y) ≡ map listed ts
+same_listed [] t x y e n k r = refl
+same_listed (z ∷ ts) zero x y e n k r = ap (λ (l : Listed). l ∷ map listed ts) (rw (n, k, r) (ap listed (sym (some_inj z x e))))
+same_listed (z ∷ ts) (suc t) x y e n k r = ap (λ (l : List Listed). listed z ∷ l) (same_listed ts t x y e n k r)
+
+same_given : (ts : List ListTable) (t : ℕ) (x y : ListTable) (o : Option ListScan) → slice_get ts t ≡ Some x → y.rows.items ≡ x.rows.items → scan_rows (slice_set ts t y) o ≡ scan_rows ts o
+same_given ts t x y None e s = refl
+same_given ts t x y (Some z) e s = rw (same_rows ts t z.table x y e s) refl
+
+-- the state of a source by what is known of its tables
+abbrev state_by : (ℕ → Option BoxTable) → (ListScan → Scan) → List Listed → (ℕ → List Row) → (ℕ → List GivenRow) → BTreeMap ℕ ListScan → Option ListWrite → ℕ → ℕ → BoxState
+state_by bs sc ls rs gs m staged next pulled = record {
+  nature = list_nature;
+  ledger = record { tables = bs; live = mapped sc m.entries; staged = option_map write_is staged; next = next; pulled = pulled; faults = 0 };
+  content = record { holdings = λ remote. Known (entry_of ls remote); rows = λ t. numbered 0 (rs t); coming = gs };
+}
+
+same_state : (ts : List ListTable) (t : ℕ) (x y : ListTable) (bound : List Bool) (m : BTreeMap ℕ ListScan) (staged : Option ListWrite) (next pulled : ℕ) → slice_get ts t ≡ Some x → y.name ≡ x.name → y.kinds ≡ x.kinds → y.rows.items ≡ x.rows.items
+    → list_state (slice_set ts t y) bound m staged next pulled ≡ list_state ts bound m staged next pulled
+same_state ts t x y bound m staged next pulled e n k r =
+    let us = slice_set ts t y in
+    ap (λ (f : ℕ → Option BoxTable). state_by f (scan_is us) (map listed us) (rows_at us) (λ q. scan_rows us (tree.get nat_cmp m q)) m staged next pulled) (λ i q. same_bound ts t q x y (slice_index_or bound q false) e (same n k) i)
+    ∙ ap (λ (f : ListScan → Scan). state_by (marks ts) f (map listed us) (rows_at us) (λ q. scan_rows us (tree.get nat_cmp m q)) m staged next pulled) (λ i z. same_scan ts t x y z e k i)
+    ∙ ap (λ (l : List Listed). state_by (marks ts) (scan_is ts) l (rows_at us) (λ q. scan_rows us (tree.get nat_cmp m q)) m staged next pulled) (same_listed ts t x y e n k r)
+    ∙ ap (λ (f : ℕ → List Row). state_by (marks ts) (scan_is ts) (map listed ts) f (λ q. scan_rows us (tree.get nat_cmp m q)) m staged next pulled) (λ i q. same_rows ts t q x y e r i)
+    ∙ ap (λ (f : ℕ → List GivenRow). state_by (marks ts) (scan_is ts) (map listed ts) (rows_at ts) f m staged next pulled) (λ i q. same_given ts t x y (tree.get nat_cmp m q) e r i)
+  where
+    marks : List ListTable → ℕ → Option BoxTable
+    marks ts q = marked_bound (slice_index_or bound q false) (slice_get ts q)
+
+    same : y.name ≡ x.name → y.kinds ≡ x.kinds → bound_of y ≡ bound_of x
+    same a b = rw (a, b) refl
+
+many_rows : (x : ListTable) (s : ListWrite) (entry : Option Entry) → 1000000 < length (rows_after no_line (numbered 0 x.rows.items) (map change_is s.changes.items)) → list_refusals.causes entry (numbered 0 x.rows.items) (map change_is s.changes.items) ≡ TooLarge ∷ []
+many_rows x s entry lt = rw (many (length (rows_after no_line (numbered 0 x.rows.items) (map change_is s.changes.items))) lt) refl
+  where
     many : (n : ℕ) → 1000000 < n → nat_lt 1000000 n ≡ true
     many n lt = search rules
 
-pub list_refuses : (tables : List ListTable) (bound : List Bool) (m : BTreeMap ℕ ListScan) (s : ListWrite) (staged after : Option ListWrite) (keep : Bool) (next pulled : ℕ) (x y : ListTable) → staged ≡ Some s → after ≡ None → keep ≡ true → slice_get tables s.table ≡ Some x → map as_held y.rows.items ≡ rows_after no_line (numbered 0 x.rows.items) (map change_is s.changes.items) → 1000000 < length y.rows.items → RefusesClose (list_state tables bound m staged next pulled) keep (Refused TooLarge) (list_state tables bound m after next pulled)
-list_refuses tables bound m s staged after keep next pulled x y es ea k is er large = rw (es, ea) record {
-  kept = k;
-  nature = refl;
-  staging = write_is s;
-  is_staged = refl;
-  ledger = refl;
-  cause = (refl, λ honest b at. (entry_of (map listed tables) b.remote, refl, in_it (entry_of (map listed tables) b.remote) (slice_index_or bound s.table false) (slice_get tables s.table) b at));
-  leaves = λ honest. record { coming = λ q l o. refl; rows = λ t o. refl; holdings = λ r o. refl };
-}
+-- why a write is refused, as the box says it
+close_cause : (tables : List ListTable) (bound : List Bool) (m : BTreeMap ℕ ListScan) (s : ListWrite) (next pulled : ℕ) (x : ListTable) (fault : Fault) → slice_get tables s.table ≡ Some x → StandsFor fault (rows_after no_line (numbered 0 x.rows.items) (map change_is s.changes.items)) → CloseCause (list_state tables bound m (Some s) next pulled) (write_is s) fault
+close_cause tables bound m s next pulled x NoMemory is why = tt
+close_cause tables bound m s next pulled x Source is why = tt
+close_cause tables bound m s next pulled x (Refused c) is why =
+    rw why.0 (refl, λ honest b at. (entry_of (map listed tables) b.remote, refl, in_it (entry_of (map listed tables) b.remote) (slice_index_or bound s.table false) (slice_get tables s.table) b at))
   where
     causes : (entry : Option Entry) → list_refusals.causes entry (numbered 0 (rows_at tables s.table)) (map change_is s.changes.items) ≡ TooLarge ∷ []
-    causes entry = rw is (many_rows x y s entry er large)
+    causes entry = rw is (many_rows x s entry why.1)
 
     one : Contains (TooLarge ∷ []) TooLarge
     one = search rules
@@ -238,6 +268,23 @@ list_refuses tables bound m s staged after keep next pulled x y es ea k is er la
     in_it entry false o b e = absurd cc
     in_it entry true None b e = absurd cc
     in_it entry true (Some z) b e = subst (λ (v : BoxTable). Contains (v.refuses.causes entry (numbered 0 (rows_at tables s.table)) (map change_is s.changes.items)) TooLarge) (some_inj (bound_of z) b e) (subst (λ (l : List Cause). Contains l TooLarge) (sym (causes entry)) one)
+
+no_faults : (fault : Fault) (after : List Held) → StandsFor fault after → 0 ≡ faults_after fault 0
+no_faults NoMemory after why = refl
+no_faults Source after why = absurd why
+no_faults (Refused c) after why = refl
+
+pub list_refuses : (tables : List ListTable) (bound : List Bool) (m : BTreeMap ℕ ListScan) (s : ListWrite) (staged after : Option ListWrite) (keep : Bool) (next pulled : ℕ) (x y : ListTable) (fault : Fault) → staged ≡ Some s → after ≡ None → keep ≡ true → slice_get tables s.table ≡ Some x → y.name ≡ x.name → y.kinds ≡ x.kinds → y.rows.items ≡ x.rows.items
+    → StandsFor fault (rows_after no_line (numbered 0 x.rows.items) (map change_is s.changes.items)) → RefusesClose (list_state tables bound m staged next pulled) keep fault (list_state (slice_set tables s.table y) bound m after next pulled)
+list_refuses tables bound m s staged after keep next pulled x y fault es ea k is en ek er why = rw (es, ea, same_state tables s.table x y bound m None next pulled is en ek er) record {
+  kept = k;
+  nature = refl;
+  staging = write_is s;
+  is_staged = refl;
+  ledger = ap (λ (n : ℕ). record (list_state tables bound m None next pulled).ledger { faults = n }) (no_faults fault _ why);
+  cause = close_cause tables bound m s next pulled x fault is why;
+  leaves = λ honest. record { coming = λ q l o. refl; rows = λ t o. refl; holdings = λ r o. refl };
+}
 
 -- the rows of a table that a write leaves are of its types
 fit_at : (ts : List ListTable) (t : ℕ) (x : ListTable) → slice_get ts t ≡ Some x → rows_fit (map listed ts) ≡ true → list_all (row_fits x.kinds.items) (map tuple x.rows.items) ≡ true
@@ -270,3 +317,16 @@ written_fits ts s staged x y law es is ek f w er =
     let after : list_all (row_fits x.kinds.items) (map tuple y.rows.items) ≡ true =
     sym (line_fits x.kinds.items y.rows.items) ∙ ap (all_fit x.kinds.items) er ∙ law x.kinds.items no_line (numbered 0 x.rows.items) (map change_is s.changes.items) changes old in
     set_fits ts s.table x y is (rw ek after) f
+
+-- what is known of a call where it succeeds, and where it fails
+pub either_way : {T E : Type 0} (A B C : Type 0) (r : Result T E) → OnOk r A → OnErr r B → (A → C) → (B → C) → C
+either_way A B C (Ok x) a b f g = f a
+either_way A B C (Err e) a b f g = g b
+
+pub where_ok : {T E : Type 0} (A B : Type 0) (C : T → Type 0) (r : Result T E) → OnOk r A → OnOk r B → (A → B → (x : T) → C x) → IfOk r C
+where_ok A B C (Ok x) a b f = f a b x
+where_ok A B C (Err e) a b f = tt
+
+pub where_err : {T E : Type 0} (A : Type 0) (B C : E → Type 0) (r : Result T E) → OnErr r A → IfErr r B → ((e : E) → A → B e → C e) → IfErr r C
+where_err A B C (Ok x) a b f = tt
+where_err A B C (Err e) a b f = f e a b

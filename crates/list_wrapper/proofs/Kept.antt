@@ -1,134 +1,234 @@
 -- What staged changes make of the rows of a list.
-use Rattle.std.proofs.Common.{◌≡◌, ℕ, ◌+◌, ◌<◌, ◌≤◌, Bool, true, false, if◌then◌else◌, nat_eq, List, [], ◌∷◌, ◌++◌, length, map, flat_map, replicate, drop, get_or, slice_set, Result, Ok, Err, IfOk, suc, zero, refl, ap, sym, ◌∙◌, subst, arith, rules}
-use Rattle.std.proofs.lemmas.List.{drop_more, drop_all}
-use Rattle.med_value.specs.Datum.{Tuple, tuple}
+use Rattle.std.proofs.Common.{◌≡◌, ℕ, ◌+◌, ◌-◌, ◌<◌, ◌≤◌, ◌⊎◌, inl, inr, cond, Bool, true, false, if◌then◌else◌, nat_eq, List, [], ◌∷◌, ◌++◌, length, map, flat_map, take, drop, get_or, set, suc, zero, refl, ap, sym, ◌∙◌, subst, arith, length-append, length-set, append_assoc}
+use Rattle.std.specs.List.{count_by, list_any, SwappedAt}
+use Rattle.std.proofs.lemmas.List.{drop_more, drop_all, take_more_set, take-set, take-set-le, drop-set-lt, get_or_past}
+use Rattle.std.proofs.lemmas.List.Sums.{sum_by-cons}
+use Rattle.std.proofs.lemmas.Bool.{cases_lt}
 use Rattle.med_value.specs.declared.value.Row.{Row}
-use Rattle.fdw_api.specs.Scan.{TableRow}
-use Rattle.fdw_api.specs.Kinds.{Held, held, Change, Inserts, Updates, Deletes}
-use Rattle.fdw_api.specs.Writes.{row_after, inserted}
-use Rattle.list_wrapper.specs.declared.changes.Fate.{Fate}
-use Rattle.list_wrapper.specs.declared.changes.Fate.TheVariants.{Keep, Change as ChangeTo, Gone}
+use Rattle.fdw_api.specs.Prelude.{Held, held, row_after, inserted, rows_after}
+use Rattle.list_wrapper.specs.declared.changes.ListChange.{ListChange}
+use Rattle.list_wrapper.specs.declared.changes.ListChange.TheVariants.{Insert, Update, Delete}
 use Rattle.list_wrapper.specs.Lists.{no_line}
 use Rattle.list_wrapper.specs.Scans.{numbered}
-use Rattle.list_wrapper.proofs.Numbered.{row_at}
-use Rattle.list_wrapper.specs.Changes.{as_held, outcome, rows_left}
+use Rattle.list_wrapper.specs.Changes.{change_is, as_held, is_insert, is_delete, is_yes, gone_after, row_changed, fresh_rows, stay}
 
-pub no_fates : (rows : List TableRow) (cs : List Change) → rows_left rows [] cs ≡ []
-no_fates [] cs = refl
-no_fates (r ∷ rows) cs = refl
+-- what changes leave of a row that was gone before them, or was there
+abbrev left : ℕ → List ListChange → Bool → Row → List Held
+left id cs g r = if gone_after id cs g then [] else as_held (row_changed id cs r) ∷ []
 
-some_next : (rows : List TableRow) (at : ℕ) → at < length rows → (r : TableRow) × (drop at rows ≡ r ∷ drop (at + 1) rows)
-some_next [] at lt = absurd (omega arith)
-some_next (y ∷ ys) at lt = (get_or (y ∷ ys) at y, drop_more (y ∷ ys) at y lt)
-
-one_more : (xs : List Row) (x : Row) (ws : List Held) → map as_held (xs ++ x ∷ []) ++ ws ≡ map as_held xs ++ (as_held x ∷ ws)
-one_more [] x ws = refl
-one_more (y ∷ xs) x ws = ap (λ (l : List Held). as_held y ∷ l) (one_more xs x ws)
-
--- a step of the loop over fates that gives a row
-pub gives_on : (rows : List TableRow) (xs ys : List Row) (at : ℕ) (r : TableRow) (x : Row) (f : Fate) (fs gs : List Fate) (all : List Held) → map as_held xs ++ rows_left (drop at rows) fs [] ≡ all → fs ≡ f ∷ gs → drop at rows ≡ r ∷ drop (at + 1) rows → outcome r f ≡ as_held x ∷ [] → ys ≡ xs ++ x ∷ [] → map as_held ys ++ rows_left (drop (at + 1) rows) gs [] ≡ all
-gives_on rows xs ys at r x f fs gs all i is d o ey =
-    let w = rows_left (drop (at + 1) rows) gs [] in
-    let s : rows_left (drop at rows) fs [] ≡ as_held x ∷ w = rw (is, d, o) refl in
-    ap (λ (l : List Row). map as_held l ++ w) ey ∙ one_more xs x w ∙ sym (ap (λ (l : List Held). map as_held xs ++ l) s) ∙ i
-
-pub changes_on : (rows : List TableRow) (xs ys : List Row) (at : ℕ) (x : Row) (fs gs : List Fate) (all : List Held) → map as_held xs ++ rows_left (drop at rows) fs [] ≡ all → fs ≡ ChangeTo x ∷ gs → at < length rows → ys ≡ xs ++ x ∷ [] → map as_held ys ++ rows_left (drop (at + 1) rows) gs [] ≡ all
-changes_on rows xs ys at x fs gs all i is lt ey = let n = some_next rows at lt in gives_on rows xs ys at n.0 x (ChangeTo x) fs gs all i is n.1 refl ey
-
--- a step that gives none
-pub drops_on : (rows : List TableRow) (xs : List Row) (at : ℕ) (fs gs : List Fate) (all : List Held) → map as_held xs ++ rows_left (drop at rows) fs [] ≡ all → fs ≡ Gone ∷ gs → at < length rows → map as_held xs ++ rows_left (drop (at + 1) rows) gs [] ≡ all
-drops_on rows xs at fs gs all i is lt =
-    let n = some_next rows at lt in
-    let s : rows_left (drop at rows) fs [] ≡ rows_left (drop (at + 1) rows) gs [] = rw (is, n.1) refl in
-    sym (ap (λ (l : List Held). map as_held xs ++ l) s) ∙ i
-
--- a step past the last row
-pub past_on : (rows : List TableRow) (xs : List Row) (at : ℕ) (fs gs : List Fate) (all : List Held) → map as_held xs ++ rows_left (drop at rows) fs [] ≡ all → length rows ≤ at → map as_held xs ++ rows_left (drop at rows) gs [] ≡ all
-past_on rows xs at fs gs all i le =
-    let none = drop_all at rows le in
-    ap (λ (l : List TableRow). map as_held xs ++ rows_left l gs []) none ∙ sym (ap (λ (l : List TableRow). map as_held xs ++ rows_left l fs []) none) ∙ i
-
-pub copied : (x r : Row) → tuple x ≡ tuple r → as_held r ∷ [] ≡ as_held x ∷ []
-copied x r e = ap (λ (t : Tuple). record { cells = t; origin = [] } ∷ []) (sym e)
-
-no_more : (l : List Held) → l ++ [] ≡ l
-no_more l = search rules
-
-pub no_items : (l : List Fate) → length l ≡ 0 → l ≡ []
-no_items [] e = refl
-no_items (x ∷ l) e = absurd (omega arith)
-
-pub ends_on : (rows : List TableRow) (fs : List Fate) (xs : List Row) (all : List Held) → map as_held xs ++ rows_left rows fs [] ≡ all → fs ≡ [] → map as_held xs ≡ all
-ends_on rows fs xs all i f = sym (no_more (map as_held xs)) ∙ sym (ap (λ (l : List Held). map as_held xs ++ l) (ap (λ (gs : List Fate). rows_left rows gs []) f ∙ no_fates rows [])) ∙ i
-
-pub parts_on : (xs ys zs : List Row) (ws vs : List Held) → zs ≡ xs ++ ys → map as_held xs ≡ ws → map as_held ys ≡ vs → map as_held zs ≡ ws ++ vs
-parts_on xs ys zs ws vs e x y = ap (map as_held) e ∙ both xs ∙ ap (λ (l : List Held). l ++ map as_held ys) x ∙ ap (λ (l : List Held). ws ++ l) y
+row_is : (id : ℕ) (cs : List ListChange) (g : Bool) (r : Row) → row_after no_line id (map change_is cs) (if g then [] else as_held r ∷ []) ≡ left id cs g r
+row_is id [] g r = refl
+row_is id (Insert x ∷ cs) g r = row_is id cs g r
+row_is id (Update j x ∷ cs) g r = updated (nat_eq j id) (row_is id cs)
   where
-    both : (l : List Row) → map as_held (l ++ ys) ≡ map as_held l ++ map as_held ys
-    both [] = refl
-    both (z ∷ l) = ap (λ (m : List Held). as_held z ∷ m) (both l)
+    updated : (b : Bool) → ((g : Bool) (r : Row) → row_after no_line id (map change_is cs) (if g then [] else as_held r ∷ []) ≡ left id cs g r)
+        → row_after no_line id (map change_is cs) (if b then as_held x ∷ [] else (if g then [] else as_held r ∷ [])) ≡ left id cs (if b then false else g) (if b then x else r)
+    updated true h = h false x
+    updated false h = h g r
+row_is id (Delete j ∷ cs) g r = deleted (nat_eq j id) (row_is id cs)
+  where
+    deleted : (b : Bool) → ((g : Bool) (r : Row) → row_after no_line id (map change_is cs) (if g then [] else as_held r ∷ []) ≡ left id cs g r)
+        → row_after no_line id (map change_is cs) (if b then [] else (if g then [] else as_held r ∷ [])) ≡ left id cs (if b then true else g) r
+    deleted true h = h true r
+    deleted false h = h g r
 
--- the loop over changes goes on with a new row
-pub fresh_on : (xs ys : List Row) (x : Row) (cs ds : List Change) (all : List Held) → map as_held xs ++ flat_map (inserted no_line) cs ≡ all → cs ≡ Inserts (tuple x) ∷ ds → ys ≡ xs ++ x ∷ [] → map as_held ys ++ flat_map (inserted no_line) ds ≡ all
-fresh_on xs ys x cs ds all i is ey =
-    ap (λ (l : List Row). map as_held l ++ flat_map (inserted no_line) ds) ey ∙ one_more xs x (flat_map (inserted no_line) ds) ∙ sym (ap (λ (l : List Change). map as_held xs ++ flat_map (inserted no_line) l) is) ∙ i
+-- where no change takes a row out, none is gone
+pub none_gone : (cs : List ListChange) → list_any is_delete cs ≡ false → (id : ℕ) → gone_after id cs false ≡ false
+none_gone [] e id = refl
+none_gone (Insert x ∷ cs) e id = none_gone cs e id
+none_gone (Update j x ∷ cs) e id = same (nat_eq j id) (none_gone cs e id)
+  where
+    same : (b : Bool) → gone_after id cs false ≡ false → gone_after id cs (if b then false else false) ≡ false
+    same true h = h
+    same false h = h
+none_gone (Delete j ∷ cs) e id = absurd cc
 
--- kept rows, before any change
-pub left_kept : (n : ℕ) (rs : List Row) (cs : List Change) → rows_left (numbered n rs) (replicate (length rs) Keep) cs ≡ flat_map (λ r. row_after no_line r.id cs (held r ∷ [])) (numbered n rs)
-left_kept n [] cs = refl
-left_kept n (r ∷ rs) cs = ap (λ (l : List Held). row_after no_line n cs (as_held r ∷ []) ++ l) (left_kept (n + 1) rs cs)
+pub stay_none : (rows : List Row) → stay rows [] ≡ rows
+stay_none [] = refl
+stay_none (r ∷ rows) = ap (λ (l : List Row). r ∷ l) (stay_none rows)
 
--- an insertion changes no row
-pub left_insert : (n : ℕ) (rs : List Row) (fs : List Fate) (x : Tuple) (cs : List Change) → rows_left (numbered n rs) fs (Inserts x ∷ cs) ≡ rows_left (numbered n rs) fs cs
-left_insert n [] fs x cs = refl
-left_insert n (r ∷ rs) [] x cs = refl
-left_insert n (r ∷ rs) (f ∷ fs) x cs = ap (λ (l : List Held). row_after no_line n cs (outcome (row_at n r) f) ++ l) (left_insert (n + 1) rs fs x cs)
+yes_more : (g : Bool) (gone : List Bool) → count_by is_yes (g ∷ gone) ≡ cond (is_yes g) 1 0 + count_by is_yes gone
+yes_more g gone = sum_by-cons (λ x. cond (is_yes x) 1 0) g gone
 
--- a change that is to row m alone
-abbrev Misses : ℕ → Change → Type 0
-Misses m c = (id : ℕ) (cs : List Change) (now : List Held) → nat_eq m id ≡ false → row_after no_line id (c ∷ cs) now ≡ row_after no_line id cs now
+pub stay_length : (rows : List Row) (gone : List Bool) → length gone ≤ length rows → length (stay rows gone) + count_by is_yes gone ≡ length rows
+stay_length [] [] le = refl
+stay_length [] (g ∷ gone) le = absurd (omega arith)
+stay_length (r ∷ rows) [] le = let h = stay_length rows [] (omega arith) in let e : suc (length (stay rows [])) + count_by is_yes [] ≡ suc (length rows) = omega arith in e
+stay_length (r ∷ rows) (true ∷ gone) le =
+    let h = stay_length rows gone (omega arith) in
+    let m : count_by is_yes (true ∷ gone) ≡ 1 + count_by is_yes gone = yes_more true gone in
+    let e : length (stay rows gone) + count_by is_yes (true ∷ gone) ≡ suc (length rows) = omega arith in e
+stay_length (r ∷ rows) (false ∷ gone) le =
+    let h = stay_length rows gone (omega arith) in
+    let m : count_by is_yes (false ∷ gone) ≡ 0 + count_by is_yes gone = yes_more false gone in
+    let e : suc (length (stay rows gone)) + count_by is_yes (false ∷ gone) ≡ suc (length rows) = omega arith in e
 
-abbrev Hits : ℕ → Change → Fate → Type 0
-Hits m c f = (r : TableRow) (cs : List Change) (now : List Held) → row_after no_line m (c ∷ cs) now ≡ row_after no_line m cs (outcome r f)
+pub fresh_count : (cs : List ListChange) → length (fresh_rows cs) ≡ count_by is_insert cs
+fresh_count [] = refl
+fresh_count (Insert x ∷ cs) =
+    let h = fresh_count cs in
+    let m : count_by is_insert (Insert x ∷ cs) ≡ 1 + count_by is_insert cs = sum_by-cons (λ c. cond (is_insert c) 1 0) (Insert x) cs in
+    let e : suc (length (fresh_rows cs)) ≡ count_by is_insert (Insert x ∷ cs) = omega arith in e
+fresh_count (Update j x ∷ cs) = fresh_count cs
+fresh_count (Delete j ∷ cs) = fresh_count cs
 
-past : (m n : ℕ) → m < n → nat_eq m n ≡ false
-past m n lt = search rules
+fresh_is : (cs : List ListChange) → map as_held (fresh_rows cs) ≡ flat_map (inserted no_line) (map change_is cs)
+fresh_is [] = refl
+fresh_is (Insert x ∷ cs) = ap (λ (l : List Held). as_held x ∷ l) (fresh_is cs)
+fresh_is (Update j x ∷ cs) = fresh_is cs
+fresh_is (Delete j ∷ cs) = fresh_is cs
 
-left_past : (m n : ℕ) (rs : List Row) (fs : List Fate) (c : Change) (cs : List Change) → Misses m c → m < n → rows_left (numbered n rs) fs (c ∷ cs) ≡ rows_left (numbered n rs) fs cs
-left_past m n [] fs c cs miss lt = refl
-left_past m n (r ∷ rs) [] c cs miss lt = refl
-left_past m n (r ∷ rs) (f ∷ fs) c cs miss lt = rw (miss n cs (outcome (row_at n r) f) (past m n lt), left_past m (n + 1) rs fs c cs miss (omega arith)) refl
+held_length : (rows : List Row) → length (map as_held rows) ≡ length rows
+held_length [] = refl
+held_length (r ∷ rows) = ap (λ (n : ℕ). suc n) (held_length rows)
 
-ahead : (m n : ℕ) → n < m → nat_eq m n ≡ false
-ahead m n lt = search rules
+-- the marks are of these changes, and the rows are as these changes leave them, both from an id on
+abbrev Marks : ℕ → List Row → List Bool → List ListChange → Type 0
+Marks n rows gone cs = (i : ℕ) → i < length rows → get_or gone i false ≡ gone_after (n + i) cs false
 
-left_at : (m n j : ℕ) (rs : List Row) (fs : List Fate) (c : Change) (f : Fate) (cs : List Change) → m ≡ n + j → Misses m c → Hits m c f → rows_left (numbered n rs) fs (c ∷ cs) ≡ rows_left (numbered n rs) (slice_set fs j f) cs
-left_at m n j [] fs c f cs e miss hit = refl
-left_at m n zero (r ∷ rs) [] c f cs e miss hit = refl
-left_at m n (suc j) (r ∷ rs) [] c f cs e miss hit = refl
-left_at m n zero (r ∷ rs) (g ∷ fs) c f cs e miss hit =
-    let same : row_after no_line n (c ∷ cs) (outcome (row_at n r) g) ≡ row_after no_line n cs (outcome (row_at n r) f) = subst (λ (k : ℕ). row_after no_line k (c ∷ cs) (outcome (row_at n r) g) ≡ row_after no_line k cs (outcome (row_at n r) f)) (omega arith) (hit (row_at n r) cs (outcome (row_at n r) g)) in
-    rw (same, left_past m (n + 1) rs fs c cs miss (omega arith)) refl
-left_at m n (suc j) (r ∷ rs) (g ∷ fs) c f cs e miss hit = rw (miss n cs (outcome (row_at n r) g) (ahead m n (omega arith)), left_at m (n + 1) j rs fs c f cs (omega arith) miss hit) refl
+abbrev Changes : ℕ → List Row → List Row → List ListChange → Type 0
+Changes n rows now cs = (i : ℕ) (d : Row) → i < length rows → get_or now i d ≡ row_changed (n + i) cs (get_or rows i d)
 
-choose_false : {X : Type 0} (b : Bool) (x y : X) → b ≡ false → (if b then x else y) ≡ y
-choose_false b x y e = rw e refl
+-- of each old row what the changes leave, without the new rows
+abbrev old_left : ℕ → List Row → List ListChange → List Held
+old_left n rows cs = flat_map (λ r. row_after no_line r.id (map change_is cs) (held r ∷ [])) (numbered n rows)
 
-choose_true : {X : Type 0} (b : Bool) (x y : X) → b ≡ true → (if b then x else y) ≡ x
-choose_true b x y e = rw e refl
+marks_on : (n : ℕ) (r : Row) (rows : List Row) (g : Bool) (gone : List Bool) (cs : List ListChange) → Marks n (r ∷ rows) (g ∷ gone) cs → Marks (n + 1) rows gone cs
+marks_on n r rows g gone cs m i lt = m (suc i) (omega arith) ∙ ap (λ (k : ℕ). gone_after k cs false) (omega arith)
 
-same_nat : (m : ℕ) → nat_eq m m ≡ true
-same_nat m = search rules
+none_on : (n : ℕ) (r : Row) (rows : List Row) (cs : List ListChange) → Marks n (r ∷ rows) [] cs → Marks (n + 1) rows [] cs
+none_on n r rows cs m i lt = m (suc i) (omega arith) ∙ ap (λ (k : ℕ). gone_after k cs false) (omega arith)
 
-pub left_update : (m : ℕ) (rs : List Row) (fs : List Fate) (x : Row) (cs : List Change) → rows_left (numbered 0 rs) fs (Updates m (tuple x) ∷ cs) ≡ rows_left (numbered 0 rs) (slice_set fs m (ChangeTo x)) cs
-left_update m rs fs x cs = left_at m 0 m rs fs (Updates m (tuple x)) (ChangeTo x) cs (omega arith) (λ id ds now e. ap (row_after no_line id ds) (choose_false (nat_eq m id) _ now e)) (λ r ds now. ap (row_after no_line m ds) (choose_true (nat_eq m m) _ now (same_nat m)))
+changes_on : (n : ℕ) (r x : Row) (rows now : List Row) (cs : List ListChange) → Changes n (r ∷ rows) (x ∷ now) cs → Changes (n + 1) rows now cs
+changes_on n r x rows now cs c i d lt = c (suc i) d (omega arith) ∙ ap (λ (k : ℕ). row_changed k cs (get_or rows i d)) (omega arith)
 
-pub left_delete : (m : ℕ) (rs : List Row) (fs : List Fate) (cs : List Change) → rows_left (numbered 0 rs) fs (Deletes m ∷ cs) ≡ rows_left (numbered 0 rs) (slice_set fs m Gone) cs
-left_delete m rs fs cs = left_at m 0 m rs fs (Deletes m) Gone cs (omega arith) (λ id ds now e. ap (row_after no_line id ds) (choose_false (nat_eq m id) _ now e)) (λ r ds now. ap (row_after no_line m ds) (choose_true (nat_eq m m) _ now (same_nat m)))
+-- the first row as the changes leave it
+first_left : (n : ℕ) (r x : Row) (g : Bool) (cs : List ListChange) → g ≡ gone_after (n + 0) cs false → x ≡ row_changed (n + 0) cs r
+    → row_after no_line n (map change_is cs) (as_held r ∷ []) ≡ (if g then [] else as_held x ∷ [])
+first_left n r x g cs eg ex =
+    let zero_more : n + 0 ≡ n = omega arith in
+    row_is n cs false r ∙ rw (eg, ex, zero_more) refl
 
-pub made_on : (rows : List Row) (fs gs : List Fate) (cs : List Change) (ws : List Held) → ws ≡ rows_left (numbered 0 rows) gs [] → rows_left (numbered 0 rows) gs [] ≡ rows_left (numbered 0 rows) fs cs → fs ≡ replicate (length rows) Keep → ws ≡ flat_map (λ r. row_after no_line r.id cs (held r ∷ [])) (numbered 0 rows)
-made_on rows fs gs cs ws a b e = a ∙ b ∙ ap (λ (l : List Fate). rows_left (numbered 0 rows) l cs) e ∙ left_kept 0 rows cs
+stay_from : (n : ℕ) (rows now : List Row) (gone : List Bool) (cs : List ListChange) → length gone ≤ length rows → length rows ≤ length now
+    → Marks n rows gone cs → Changes n rows now cs → map as_held (stay now gone) ≡ old_left n rows cs ++ map as_held (drop (length rows) now)
+stay_from n [] now [] cs lg ln m c = ap (map as_held) (stay_none now)
+stay_from n [] now (g ∷ gone) cs lg ln m c = absurd (omega arith)
+stay_from n (r ∷ rows) [] gone cs lg ln m c = absurd (omega arith)
+stay_from n (r ∷ rows) (x ∷ now) [] cs lg ln m c =
+    let h = stay_from (n + 1) rows now [] cs (omega arith) (omega arith) (none_on n r rows cs m) (changes_on n r x rows now cs c) in
+    let f = first_left n r x false cs (m 0 (omega arith)) (c 0 r (omega arith)) in
+    ap (λ (l : List Held). as_held x ∷ l) h ∙ ap (λ (l : List Held). (l ++ old_left (n + 1) rows cs) ++ map as_held (drop (length rows) now)) (sym f)
+stay_from n (r ∷ rows) (x ∷ now) (true ∷ gone) cs lg ln m c =
+    let h = stay_from (n + 1) rows now gone cs (omega arith) (omega arith) (marks_on n r rows true gone cs m) (changes_on n r x rows now cs c) in
+    let f = first_left n r x true cs (m 0 (omega arith)) (c 0 r (omega arith)) in
+    h ∙ ap (λ (l : List Held). (l ++ old_left (n + 1) rows cs) ++ map as_held (drop (length rows) now)) (sym f)
+stay_from n (r ∷ rows) (x ∷ now) (false ∷ gone) cs lg ln m c =
+    let h = stay_from (n + 1) rows now gone cs (omega arith) (omega arith) (marks_on n r rows false gone cs m) (changes_on n r x rows now cs c) in
+    let f = first_left n r x false cs (m 0 (omega arith)) (c 0 r (omega arith)) in
+    ap (λ (l : List Held). as_held x ∷ l) h ∙ ap (λ (l : List Held). (l ++ old_left (n + 1) rows cs) ++ map as_held (drop (length rows) now)) (sym f)
 
-pub if_ok : {T E : Type 0} (r : Result T E) (P Q : T → Type 0) → ((x : T) → P x → Q x) → IfOk r P → IfOk r Q
-if_ok (Ok x) P Q f p = f x p
-if_ok (Err e) P Q f p = tt
+-- the rows that stay, once changed rows are in their places and new ones behind all, are the rows after all changes
+pub rows_stay : (rows now : List Row) (gone : List Bool) (cs : List ListChange) → length gone ≤ length rows → length rows ≤ length now
+    → ((i : ℕ) → i < length rows → get_or gone i false ≡ gone_after i cs false)
+    → ((i : ℕ) (d : Row) → i < length rows → get_or now i d ≡ row_changed i cs (get_or rows i d))
+    → drop (length rows) now ≡ fresh_rows cs → map as_held (stay now gone) ≡ rows_after no_line (numbered 0 rows) (map change_is cs)
+rows_stay rows now gone cs lg ln m c f =
+    stay_from 0 rows now gone cs lg ln (λ i lt. m i lt ∙ ap (λ (k : ℕ). gone_after k cs false) (omega arith)) (λ i d lt. c i d lt ∙ ap (λ (k : ℕ). row_changed k cs (get_or rows i d)) (omega arith))
+    ∙ ap (λ (l : List Row). old_left 0 rows cs ++ map as_held l) f ∙ ap (λ (l : List Held). old_left 0 rows cs ++ l) (fresh_is cs)
+
+old_length : (n : ℕ) (rows : List Row) (gone : List Bool) (cs : List ListChange) → Marks n rows gone cs → length (old_left n rows cs) ≡ length (stay rows gone)
+old_length n [] gone cs m = refl
+old_length n (r ∷ rows) [] cs m =
+    let h = old_length (n + 1) rows [] cs (none_on n r rows cs m) in
+    ap (λ (l : List Held). length (l ++ old_left (n + 1) rows cs)) (first_left n r (row_changed (n + 0) cs r) false cs (m 0 (omega arith)) refl) ∙ ap (λ (k : ℕ). suc k) h
+old_length n (r ∷ rows) (true ∷ gone) cs m =
+    let h = old_length (n + 1) rows gone cs (marks_on n r rows true gone cs m) in
+    ap (λ (l : List Held). length (l ++ old_left (n + 1) rows cs)) (first_left n r (row_changed (n + 0) cs r) true cs (m 0 (omega arith)) refl) ∙ h
+old_length n (r ∷ rows) (false ∷ gone) cs m =
+    let h = old_length (n + 1) rows gone cs (marks_on n r rows false gone cs m) in
+    ap (λ (l : List Held). length (l ++ old_left (n + 1) rows cs)) (first_left n r (row_changed (n + 0) cs r) false cs (m 0 (omega arith)) refl) ∙ ap (λ (k : ℕ). suc k) h
+
+-- how many rows there are after all changes
+pub after_length : (rows : List Row) (gone : List Bool) (cs : List ListChange) → length gone ≤ length rows
+    → ((i : ℕ) → i < length rows → get_or gone i false ≡ gone_after i cs false)
+    → length (rows_after no_line (numbered 0 rows) (map change_is cs)) ≡ (length rows - count_by is_yes gone) + count_by is_insert cs
+after_length rows gone cs lg m =
+    let o = old_length 0 rows gone cs (λ i lt. m i lt ∙ ap (λ (k : ℕ). gone_after k cs false) (omega arith)) in
+    let s = stay_length rows gone lg in
+    let f = fresh_count cs in
+    let i : length (flat_map (inserted no_line) (map change_is cs)) ≡ length (fresh_rows cs) = sym (ap length (fresh_is cs)) ∙ held_length (fresh_rows cs) in
+    length-append (old_left 0 rows cs) (flat_map (inserted no_line) (map change_is cs)) ∙ omega arith
+
+-- rows that stay are no more than the rows after all changes
+pub same_length : (xs : List Row) (ws : List Held) → map as_held xs ≡ ws → length xs ≡ length ws
+same_length xs ws e = sym (held_length xs) ∙ ap length e
+
+-- a step over a row that is gone, and over one that stays
+stay_more : (rows : List Row) (gone : List Bool) (at : ℕ) (y : Row) → at < length rows → y ≡ get_or rows at y
+    → stay (drop at rows) (drop at gone) ≡ (if get_or gone at false then stay (drop (at + 1) rows) (drop (at + 1) gone) else y ∷ stay (drop (at + 1) rows) (drop (at + 1) gone))
+stay_more rows gone at y lt e = split (drop_more rows at y lt ∙ ap (λ (r : Row). r ∷ drop (at + 1) rows) (sym e)) (cases_lt at (length gone))
+  where
+    split : drop at rows ≡ y ∷ drop (at + 1) rows → (at < length gone) ⊎ (length gone ≤ at)
+        → stay (drop at rows) (drop at gone) ≡ (if get_or gone at false then stay (drop (at + 1) rows) (drop (at + 1) gone) else y ∷ stay (drop (at + 1) rows) (drop (at + 1) gone))
+    split d (inl w) = rw (d, drop_more gone at false w) refl
+    split d (inr w) = rw (d, drop_all at gone w, get_or_past gone at false w, drop_all (at + 1) gone (omega arith)) refl
+
+-- rows swapped: what was behind comes next to the front, and what is behind that stays
+swapped : (ys zs : List Row) (k at : ℕ) (y : Row) → k ≤ at → at < length ys → y ≡ get_or ys at y → SwappedAt ys zs k at
+    → (take (k + 1) zs ≡ take k ys ++ y ∷ []) × (drop (at + 1) zs ≡ drop (at + 1) ys)
+swapped ys zs k at y le lt e s =
+    let w = get_or ys k y in
+    let is : zs ≡ set (set ys k y) at w = s.3 y ∙ ap (λ (x : Row). set (set ys k x) at w) (sym e) in
+    let long : length (set ys k y) ≡ length ys = length-set ys k y in
+    (ap (take (k + 1)) is ∙ front w (cases_lt k at) long, ap (drop (at + 1)) is ∙ drop-set-lt (at + 1) (set ys k y) at w (omega arith) ∙ drop-set-lt (at + 1) ys k y (omega arith))
+  where
+    front : (w : Row) → (k < at) ⊎ (at ≤ k) → length (set ys k y) ≡ length ys → take (k + 1) (set (set ys k y) at (get_or ys k y)) ≡ take k ys ++ y ∷ []
+    front w (inl less) long = take-set-le (k + 1) (set ys k y) at (get_or ys k y) (omega arith) ∙ take_more_set ys k y (omega arith)
+    front w (inr more) long =
+        let same : at ≡ k = omega arith in
+        ap (λ (n : ℕ). take (k + 1) (set (set ys k y) n (get_or ys k y))) same ∙ take_more_set (set ys k y) k (get_or ys k y) (omega arith)
+        ∙ ap (λ (l : List Row). l ++ get_or ys k y ∷ []) (take-set ys k y) ∙ ap (λ (x : Row). take k ys ++ x ∷ []) (ap (λ (n : ℕ). get_or ys n y) (sym same) ∙ sym e)
+
+-- a row that stands at a place within
+row_there : (rows : List Row) (at : ℕ) → at < length rows → (y : Row) × (y ≡ get_or rows at y)
+row_there [] at lt = absurd (omega arith)
+row_there (r ∷ rows) zero lt = (r, refl)
+row_there (r ∷ rows) (suc at) lt = row_there rows at (omega arith)
+
+-- the loop that takes rows out goes on over a row that stays, and over one that is gone
+pub keeps_on : (ys zs all : List Row) (gone : List Bool) (k at : ℕ) → k ≤ at → at < length ys → get_or gone at false ≡ false → SwappedAt ys zs k at
+    → take k ys ++ stay (drop at ys) (drop at gone) ≡ all → take (k + 1) zs ++ stay (drop (at + 1) zs) (drop (at + 1) gone) ≡ all
+keeps_on ys zs all gone k at le lt e s i =
+    let y = row_there ys at lt in
+    let m = stay_more ys gone at y.0 lt y.1 in
+    let w = swapped ys zs k at y.0 le lt y.1 s in
+    rw (w.0, w.1, append_assoc) (sym (ap (λ (l : List Row). take k ys ++ l) (m ∙ rw e refl)) ∙ i)
+
+pub drops_on : (ys all : List Row) (gone : List Bool) (k at : ℕ) → at < length ys → get_or gone at false ≡ true
+    → take k ys ++ stay (drop at ys) (drop at gone) ≡ all → take k ys ++ stay (drop (at + 1) ys) (drop (at + 1) gone) ≡ all
+drops_on ys all gone k at lt e i =
+    let y = row_there ys at lt in
+    let m = stay_more ys gone at y.0 lt y.1 in
+    sym (ap (λ (l : List Row). take k ys ++ l) (m ∙ rw e refl)) ∙ i
+
+pub no_marks : (l : List Bool) → length l ≡ 0 → l ≡ []
+no_marks [] e = refl
+no_marks (x ∷ l) e = absurd (omega arith)
+
+-- changes that are made step by step leave the rows after all changes
+pub all_applied : (rows mid now last : List Row) (gone marks : List Bool) (cs seen : List ListChange) → mid ≡ rows → marks ≡ gone → seen ≡ cs → length gone ≤ length rows
+    → ((i : ℕ) → i < length rows → get_or gone i false ≡ gone_after i seen false)
+    → ((i : ℕ) (d : Row) → i < length mid → get_or now i d ≡ row_changed i cs (get_or mid i d))
+    → drop (length mid) now ≡ fresh_rows cs → length mid ≤ length now → last ≡ stay now marks → map as_held last ≡ rows_after no_line (numbered 0 rows) (map change_is cs)
+all_applied rows mid now last gone marks cs seen em ek es lg m c f ln l =
+    ap (map as_held) (l ∙ ap (stay now) ek)
+    ∙ rows_stay rows now gone cs lg (subst (λ (l : List Row). length l ≤ length now) em ln) (λ i lt. m i lt ∙ ap (λ (l : List ListChange). gone_after i l false) es)
+    (λ i d lt. c i d (subst (λ (l : List Row). i < length l) (sym em) lt) ∙ ap (λ (l : List Row). row_changed i cs (get_or l i d)) em) (sym (ap (λ (l : List Row). drop (length l) now) em) ∙ f)
+
+-- how many rows that will be, as it is counted
+pub counted : (rows : List Row) (gone marks : List Bool) (cs seen told : List ListChange) (taken fresh : ℕ) → marks ≡ gone → seen ≡ cs → told ≡ cs → length gone ≤ length rows
+    → ((i : ℕ) → i < length rows → get_or gone i false ≡ gone_after i seen false) → taken ≡ count_by is_yes marks → fresh ≡ count_by is_insert told
+    → length (rows_after no_line (numbered 0 rows) (map change_is cs)) ≡ (length rows - taken) + fresh
+counted rows gone marks cs seen told taken fresh ek es et lg m eg ef =
+    after_length rows gone cs lg (λ i lt. m i lt ∙ ap (λ (l : List ListChange). gone_after i l false) es)
+    ∙ ap (λ (n : ℕ). (length rows - n) + count_by is_insert cs) (sym (eg ∙ ap (count_by is_yes) ek)) ∙ ap (λ (n : ℕ). (length rows - taken) + n) (sym (ef ∙ ap (count_by is_insert) et))

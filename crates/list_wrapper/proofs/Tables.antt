@@ -6,19 +6,14 @@ use Rattle.std.specs.BTreeMap.{BTreeMap}
 use Rattle.std.proofs.lemmas.Bool.Decides.{eqb_tells}
 use Rattle.std.proofs.lemmas.List.Elements.{Contains-push_cases}
 use lib.Pointwise.{bytes_decides}
-use Rattle.med_value.specs.Datum.{tuple}
+use Rattle.med_value.specs.Prelude.{tuple, phase_of}
 use Rattle.med_value.specs.declared.value.Row.{Row}
-use Rattle.med_value.specs.Causes.{phase_of}
 use Rattle.med_value.specs.declared.cause.Cause.{Cause}
 use Rattle.med_value.specs.declared.cause.Cause.TheVariants.{TableNotFound, InvalidDataType}
 use Rattle.med_value.specs.declared.value.ColType.{ColType}
 use Rattle.med_value.specs.declared.value.ColType.TheVariants as types
-use Rattle.fdw_api.specs.Kinds.{Column, OptionForm, Held, held, kinds_of, Reading}
+use Rattle.fdw_api.specs.Prelude.{Column, OptionForm, Held, held, kinds_of, Reading, Spec, row_fits, BoxTable, BoxState, set_at, table_of, Allows, CanBind, Binds, IsLeast, RefusesBind, AllowsPromise}
 use Rattle.fdw_api.specs.declared.interface.Fault.TheVariants.{Refused}
-use Rattle.fdw_api.specs.Scan.{Spec, row_fits}
-use Rattle.fdw_api.specs.State.{BoxTable, BoxState, set_at, table_of}
-use Rattle.fdw_api.specs.Calls.{Allows, CanBind, Binds, IsLeast, RefusesBind}
-use Rattle.fdw_api.specs.Wishes.{AllowsPromise}
 use Rattle.list_wrapper.specs.declared.list.ListTable.{ListTable}
 use Rattle.list_wrapper.specs.declared.scans.ListScan.{ListScan}
 use Rattle.list_wrapper.specs.declared.changes.ListWrite.{ListWrite}

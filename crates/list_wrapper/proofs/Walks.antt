@@ -5,7 +5,7 @@ use Rattle.std.proofs.lemmas.List.Sorted.{IsPermutation-filter_both, IsPermutati
 use Rattle.std.proofs.lemmas.List.Elements.{filter_passes, All-weaker}
 use Rattle.med_value.specs.Datum.{Tuple, tuple}
 use Rattle.med_value.specs.declared.value.Row.{Row}
-use Rattle.fdw_api.specs.Scan.{Spec, TableRow, IsComing, given_row, shown_cells, meets_exact}
+use Rattle.fdw_api.specs.Prelude.{Spec, TableRow, IsComing, given_row, shown_cells, meets_exact, WishForm, all_exact, is_fair}
 use Rattle.wrapper_parts.specs.Scans.{is_taken, rows_taken, rows_at_places as rows_of_places}
 use Rattle.wrapper_parts.proofs.Taking.{takes_sound, takes_exact}
 use Rattle.list_wrapper.specs.declared.scans.Walk.{Walk}
@@ -13,7 +13,6 @@ use Rattle.list_wrapper.specs.declared.scans.Walk.TheVariants.{InTurn, ByIndex, 
 use Rattle.list_wrapper.specs.Scans.{numbered, left_by_keys, rows_ahead, rows_to_come, Arranges}
 use Rattle.list_wrapper.proofs.Numbered.{next_numbered, length_numbered}
 use Rattle.list_wrapper.proofs.Calls.{first_map}
-use Rattle.fdw_api.specs.Wishes.{WishForm, all_exact, is_fair}
 use Rattle.fdw_api.specs.declared.scan.Agree.{Agree}
 use Rattle.fdw_api.specs.declared.scan.Agree.TheVariants.{Exact}
 

@@ -3,17 +3,12 @@ use Rattle.std.specs.Prelude.{◌≡◌, ℕ, Bool, true, false, not, ◌&&◌, 
 use mathlib.Core.Path.{ap, ◌∙◌}
 use Rattle.std.specs.List.{list_all}
 use Rattle.std.specs.String.{string_bytes}
-use Rattle.med_value.specs.Datum.{Tuple, tuple}
+use Rattle.med_value.specs.Prelude.{Tuple, tuple, phase_of, row_limit}
 use Rattle.med_value.specs.declared.value.ColType.{ColType}
 use Rattle.med_value.specs.declared.value.ColType.TheVariants as types
 use Rattle.med_value.specs.declared.cause.Cause.{Cause}
 use Rattle.med_value.specs.declared.cause.Cause.TheVariants.{InvalidOptionName, TableNotFound, InvalidDataType, InvalidText, TooLarge}
-use Rattle.med_value.specs.Causes.{phase_of}
-use Rattle.med_value.specs.Limits.{row_limit}
-use Rattle.fdw_api.specs.Scan.{row_fits}
-use Rattle.fdw_api.specs.Kinds.{Kind, OptionForm, Entry, Bytes, Stored, Known, Held, Reading, Refusals, kinds_of, all_fit, as_they_come, is_of_run}
-use Rattle.fdw_api.specs.State.{BoxState, IsIdle, is_honest}
-use Rattle.fdw_api.specs.Writes.{rows_after}
+use Rattle.fdw_api.specs.Prelude.{row_fits, Kind, OptionForm, Entry, Bytes, Stored, Known, Held, Reading, Refusals, kinds_of, all_fit, as_they_come, is_of_run, BoxState, IsIdle, is_honest, rows_after}
 use Rattle.list_wrapper.specs.declared.list.ListTable.{ListTable}
 
 -- a table of a list source: its name, the types of its columns and its rows

@@ -7,16 +7,10 @@ use Rattle.std.specs.BTreeMap.{BTreeMap}
 use Rattle.std.specs.String.{string_bytes}
 use Rattle.std.specs.declared.cmp.Ordering.{Ordering}
 use Rattle.std.specs.declared.cmp.Ordering.TheVariants.{Equal}
-use Rattle.med_value.specs.Datum.{Tuple, datum, tuple, cell}
-use Rattle.med_value.specs.Order.{key_cmp}
+use Rattle.med_value.specs.Prelude.{Tuple, datum, tuple, cell, key_cmp}
 use Rattle.med_value.specs.declared.value.Row.{Row}
-use Rattle.fdw_api.specs.Scan.{Spec, KeyForm, spec_of, TableRow, GivenRow, given_row, first_of, row_cmp}
-use Rattle.fdw_api.specs.Wishes.{key_form}
+use Rattle.fdw_api.specs.Prelude.{Spec, KeyForm, spec_of, TableRow, GivenRow, given_row, first_of, row_cmp, key_form, Entry, Stored, Known, as_they_come, Nature, BoxTable, Scan, Staging, Ledger, Content, BoxState, row_of, row_of_change_fits}
 use Rattle.med_value.specs.declared.value.ColType.{ColType}
-use Rattle.fdw_api.specs.Kinds.{Entry, Stored, Known, as_they_come}
-use Rattle.fdw_api.specs.State.{Nature, BoxTable, Scan, Staging, Ledger, Content, BoxState}
-use Rattle.fdw_api.specs.Calls.{row_of}
-use Rattle.fdw_api.specs.Writes.{row_of_change_fits}
 use Rattle.std.specs.List.{list_all}
 use Rattle.wrapper_parts.specs.declared.index.PlaceIndex.{PlaceIndex}
 use Rattle.wrapper_parts.specs.Scans.{is_taken, rows_taken, rows_at_places as rows_of_places, Serves, Stands}

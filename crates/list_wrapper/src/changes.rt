@@ -1,13 +1,17 @@
 //! The staged changes of a write to a list, and what they make of its rows.
-ghost use Rattle.std.specs.Prelude.{◌≡◌, ◌++◌, [], true, Some, List, map, length, flat_map, option_map, replicate, slice_set, IfOk, IfErr, IfSome, IsSome, OnOk};
+ghost use Rattle.std.specs.Prelude.{◌≡◌, ◌<◌, ◌≤◌, ◌+◌, ◌++◌, ◌∷◌, [], ℕ, true, false, Some, map, length, drop, option_map, slice_set, slice_index_or, IfOk, IfErr, IfSome, IsSome, OnOk, OnErr};
+ghost use Rattle.std.specs.List.{count_by, list_any};
+ghost use Rattle.std.specs.Vec.{vec_len, vec_capacity};
 ghost use Rattle.med_value.specs.declared.value.Row.{Row};
-ghost use Rattle.fdw_api.specs.Writes.{rows_after, inserted};
+ghost use Rattle.fdw_api.specs.Writes.{rows_after};
+ghost use Rattle.med_value.specs.Limits.{row_limit};
 ghost use Rattle.list_wrapper.specs.Lists.{no_line};
 ghost use Rattle.list_wrapper.specs.Scans.{numbered};
-ghost use Rattle.list_wrapper.specs.Changes.{change_is, write_is, with_change, broken_write, as_held, rows_left};
+ghost use Rattle.list_wrapper.specs.Changes.{change_is, write_is, with_change, broken_write, as_held, is_insert, is_delete, is_yes, gone_after, row_changed, fresh_rows, stay, StandsFor};
 
 use fdw_api::interface::Fault;
-use med_value::{NoMemory, Row};
+use med_value::limits::ROW_LIMIT;
+use med_value::{Cause, NoMemory, Row};
 use std::alloc::Global;
 
 /// A staged change.
@@ -24,21 +28,6 @@ pub(crate) struct ListWrite {
     pub(crate) table: u64,
     pub(crate) changes: Vec<ListChange>,
     pub(crate) broken: bool,
-}
-
-/// What a write makes of an old row.
-#[derive(Drop)]
-enum Fate {
-    Keep,
-    Change(Row),
-    Gone,
-}
-
-/// A sorted write: what it makes of each old row, and its new rows.
-#[derive(Drop)]
-struct Sorted {
-    fates: Vec<Fate>,
-    fresh: Vec<Row>,
 }
 
 /// Stages a change. Where memory is refused the write is broken.
@@ -60,90 +49,179 @@ pub(crate) fn add_change(staged: &mut Option<ListWrite>, change: ListChange) -> 
     }
 }
 
-/// A fate for each row: it is kept.
-fn keep_all(alloc: Global, rows: &Vec<Row>) -> Result<Vec<Fate>, NoMemory>
-    ensures { IfOk result (λ fates. fates.items ≡ replicate (length rows.now.items) Fate.Keep) }
+/// Whether a change brings a new row.
+fn is_insert(change: &ListChange) -> bool
+    ensures { result ≡ is_insert change.now }
 {
-    let mut fates = Vec::new(alloc);
-    for _ in rows {
-        fates.push(Fate::Keep)?;
-    }
-    Ok(fates)
+    matches!(change, ListChange::Insert(_))
 }
 
-/// Sets the fate of a row, if it is there.
-fn set_fate(fates: &mut Vec<Fate>, id: u64, fate: Fate)
-    ensures { fates.new.items ≡ slice_set fates.old.items id fate }
+/// Whether a change takes a row out.
+fn is_delete(change: &ListChange) -> bool
+    ensures { result ≡ is_delete change.now }
+{
+    matches!(change, ListChange::Delete(_))
+}
+
+/// How many new rows changes bring.
+fn count_fresh(changes: &[ListChange]) -> usize
+    ensures { result ≡ count_by is_insert changes.now }
+{
+    let mut count = 0;
+    for change in changes {
+        if is_insert(change) {
+            count += 1;
+        }
+    }
+    count
+}
+
+/// Whether any of these changes takes a row out.
+fn takes_out(changes: &[ListChange]) -> bool
+    ensures { result ≡ list_any is_delete changes.now }
+{
+    for change in changes {
+        if is_delete(change) {
+            return true;
+        }
+    }
+    false
+}
+
+/// Marks a row as gone or as there, if it is one of these.
+fn mark(gone: &mut Vec<bool>, id: u64, mark: bool)
+    ensures { gone.new.items ≡ slice_set gone.old.items id mark }
 {
     let at = id as usize;
-    if at < fates.len() {
-        fates[at] = fate;
+    if at < gone.len() {
+        gone[at] = mark;
     }
 }
 
-/// Sorts changes by the rows that they name.
-fn sort_changes(
-    alloc: Global,
-    fates: Vec<Fate>,
-    changes: Vec<ListChange>,
-) -> Result<Sorted, NoMemory>
-    ensures fates { IfOk result (λ s. (rows : List Row)
-        → rows_left (numbered 0 rows) s.fates.items [] ≡ rows_left (numbered 0 rows) fates.items (map change_is changes.items)) }
-    ensures fresh { IfOk result (λ s. map as_held s.fresh.items ≡ flat_map (inserted no_line) (map change_is changes.items)) }
+/// Of each of so many rows whether it is gone after these changes. The list is empty where none is taken out.
+fn gone_rows(alloc: Global, count: usize, changes: &[ListChange]) -> Result<Vec<bool>, NoMemory>
+    ensures each { IfOk result (λ gone. (id : ℕ) → id < count → slice_index_or gone.items id false ≡ gone_after id changes.now false) }
+    ensures within { IfOk result (λ gone. length gone.items ≤ count) }
 {
-    let mut fates = fates;
-    let mut fresh = Vec::new(alloc);
+    if !takes_out(changes) {
+        return Ok(Vec::new(alloc));
+    }
+    let mut gone = vec![in alloc; false; count]?;
     for change in changes {
         match change {
-            ListChange::Insert(row) => fresh.push(row)?,
-            ListChange::Update(id, row) => set_fate(&mut fates, id, Fate::Change(row)),
-            ListChange::Delete(id) => set_fate(&mut fates, id, Fate::Gone),
+            ListChange::Insert(_) => {}
+            ListChange::Update(id, _) => mark(&mut gone, *id, false),
+            ListChange::Delete(id) => mark(&mut gone, *id, true),
         }
     }
-    Ok(Sorted { fates, fresh })
+    Ok(gone)
 }
 
-/// The old rows that are left, as their fates say. The old ones stay as they are.
-fn rewritten(alloc: Global, rows: &Vec<Row>, fates: Vec<Fate>) -> Result<Vec<Row>, NoMemory>
-    ensures { IfOk result (λ after. map as_held after.items ≡ rows_left (numbered 0 rows.now.items) fates.items []) }
+/// How many rows are gone.
+fn count_gone(gone: &[bool]) -> usize
+    ensures { result ≡ count_by is_yes gone.now }
 {
-    let mut after = Vec::new(alloc);
+    let mut count = 0;
+    for is_gone in gone {
+        if *is_gone {
+            count += 1;
+        }
+    }
+    count
+}
+
+/// Whether a row is gone: one past the list is not.
+fn is_gone(gone: &[bool], at: usize) -> bool
+    ensures { result ≡ slice_index_or gone.now at false }
+{
+    match gone.get(at) {
+        Some(mark) => *mark,
+        None => false,
+    }
+}
+
+/// Puts a row in the place of another, if it is one of the first so many.
+fn replace_row(rows: &mut Vec<Row>, count: usize, id: u64, row: Row)
+    ensures here { id < count → count ≤ vec_len rows.old → (d : Row) → slice_index_or rows.new.items id d ≡ row }
+    ensures others { (i : ℕ) (d : Row) → (i ≡ id → ⊥) → slice_index_or rows.new.items i d ≡ slice_index_or rows.old.items i d }
+    ensures behind { drop count rows.new.items ≡ drop count rows.old.items }
+    ensures len { vec_len rows.new ≡ vec_len rows.old }
+    ensures room { vec_capacity rows.new ≡ vec_capacity rows.old }
+{
+    let at = id as usize;
+    if at < count && at < rows.len() {
+        rows[at] = row;
+    }
+}
+
+/// Appends a row, for which there is room.
+fn append_row(rows: &mut Vec<Row>, row: Row)
+    requires { vec_len rows.old < vec_capacity rows.old }
+    ensures items { rows.new.items ≡ rows.old.items ++ row ∷ [] }
+    ensures room { vec_capacity rows.old ≤ vec_capacity rows.new }
+{
+    match rows.push(row) {
+        Ok(()) => {}
+        Err(_) => unreachable!(),
+    }
+}
+
+/// Puts changed rows in their places and new rows behind all, for which there is room. Rows that are gone stay for now.
+fn write_rows(rows: &mut Vec<Row>, changes: Vec<ListChange>)
+    requires { vec_len rows.old + length (fresh_rows changes.items) ≤ vec_capacity rows.old }
+    ensures changed { (i : ℕ) (d : Row) → i < length rows.old.items
+        → slice_index_or rows.new.items i d ≡ row_changed i changes.items (slice_index_or rows.old.items i d) }
+    ensures fresh { drop (length rows.old.items) rows.new.items ≡ fresh_rows changes.items }
+    ensures longer { length rows.old.items ≤ length rows.new.items }
+{
+    let count = rows.len();
+    for change in changes {
+        match change {
+            ListChange::Insert(row) => append_row(rows, row),
+            ListChange::Update(id, row) => replace_row(rows, count, id, row),
+            ListChange::Delete(_) => {}
+        }
+    }
+}
+
+/// Takes rows that are gone out: those that stay move up.
+fn take_out(rows: &mut Vec<Row>, gone: &[bool])
+    ensures { rows.new.items ≡ stay rows.old.items gone.now }
+{
+    if gone.is_empty() {
+        return;
+    }
+    let mut kept = 0;
     let mut at = 0;
-    for fate in fates {
-        if at < rows.len() {
-            match fate {
-                Fate::Keep => after.push(rows[at].copy(alloc)?)?,
-                Fate::Change(row) => after.push(row)?,
-                Fate::Gone => {}
-            }
-            at += 1;
+    while at < rows.len() {
+        if !is_gone(gone, at) {
+            rows.swap(kept, at);
+            kept += 1;
         }
+        at += 1;
     }
-    Ok(after)
+    rows.truncate(kept);
 }
 
-/// Appends rows.
-fn with_rows(rows: Vec<Row>, fresh: Vec<Row>) -> Result<Vec<Row>, NoMemory>
-    ensures { IfOk result (λ all. all.items ≡ rows.items ++ fresh.items) }
-{
-    let mut rows = rows;
-    for row in fresh {
-        rows.push(row)?;
-    }
-    Ok(rows)
-}
-
-/// The rows after staged changes: the old ones that are left, in list order, and then the new ones.
-pub(crate) fn applied(
+/// Makes staged changes where the rows stand: those that are left in list order, and then the new ones. All that can fail comes first.
+pub(crate) fn apply(
     alloc: Global,
-    rows: &Vec<Row>,
+    rows: &mut Vec<Row>,
     changes: Vec<ListChange>,
-) -> Result<Vec<Row>, NoMemory>
-    ensures { IfOk result (λ after. map as_held after.items
-        ≡ rows_after no_line (numbered 0 rows.now.items) (map change_is changes.items)) }
+) -> Result<(), Fault>
+    ensures ok { OnOk result (map as_held rows.new.items ≡ rows_after no_line (numbered 0 rows.old.items) (map change_is changes.items)) }
+    ensures few { OnOk result (length rows.new.items ≤ row_limit) }
+    ensures same { OnErr result (rows.new.items ≡ rows.old.items) }
+    ensures err { IfErr result (λ fault. StandsFor fault (rows_after no_line (numbered 0 rows.old.items) (map change_is changes.items))) }
 {
-    let fates = keep_all(alloc, rows)?;
-    let Sorted { fates, fresh } = sort_changes(alloc, fates, changes)?;
-    let after = rewritten(alloc, rows, fates)?;
-    with_rows(after, fresh)
+    let gone = gone_rows(alloc, rows.len(), &changes)?;
+    let fresh = count_fresh(&changes);
+    let left = rows.len() - count_gone(&gone);
+    if left.saturating_add(fresh) > ROW_LIMIT {
+        return Err(Fault::Refused(Cause::TooLarge));
+    }
+    rows.reserve(fresh)?;
+    write_rows(rows, changes);
+    take_out(rows, &gone);
+    Ok(())
 }

@@ -4,21 +4,19 @@ ghost use Rattle.std.specs.Ordering.{nat_cmp};
 ghost use Rattle.std.specs.BTreeMap as tree;
 ghost use Rattle.std.specs.String.{string_bytes};
 ghost use Rattle.fdw_api.specs.declared.scan.Agree.TheVariants.{Exact};
-ghost use Rattle.fdw_api.specs.Kinds.{Column, column_of, kinds_of};
-ghost use Rattle.fdw_api.specs.Wishes.{key_form, spec2_of};
+ghost use Rattle.fdw_api.specs.Prelude.{Column, column_of, kinds_of, key_form, spec2_of};
 ghost use Rattle.med_value.specs.Datum.{datum};
 ghost use Rattle.list_wrapper.specs.declared.list.ListTable.{ListTable};
 ghost use Rattle.list_wrapper.specs.Lists.{listed, entry_of, names_differ, rows_fit, IsNewList, types_match};
 ghost use Rattle.list_wrapper.specs.Changes.{write_is};
 ghost use Rattle.list_wrapper.specs.Scans.{entry_at, write_fits, ScansFit};
 
-use crate::changes::{ListChange, ListWrite, add_change, applied};
+use crate::changes::{ListChange, ListWrite, add_change, apply};
 use crate::scans::{ListScan, advance, first_walk, new_walk, restart, row_of_scan, rows_of, spoil};
 use fdw_api::interface::{Counts, Fault, RowId, SourceRow, TableOption, Ticket, Wrapper};
 use fdw_api::law::{rows_are_typed, writes_are_typed};
 use fdw_api::scan::{Agree, Agreement, Restriction, ScanSpec, copy_values};
 use fdw_api::wishes::{Agreement2, OrderKey, ScanSpec2, Wish, Wrapper2};
-use med_value::limits::ROW_LIMIT;
 use med_value::{Cause, ColType, ColumnDef, NoMemory, Row, TableNo, Value};
 use std::alloc::Global;
 use std::collections::BTreeMap;
@@ -60,9 +58,7 @@ pub struct ListWrapper {
 }
 
 impl ListWrapper {
-    ghost use Rattle.fdw_api.specs.Scan.{spec_of};
-    ghost use Rattle.fdw_api.specs.State.{table_of};
-    ghost use Rattle.fdw_api.specs.Calls.{Begins, RefusesBegin};
+    ghost use Rattle.fdw_api.specs.Prelude.{spec_of, table_of, Begins, RefusesBegin};
     ghost use Rattle.list_wrapper.specs.ListBoxes.{box_of};
 
     /// A source of these tables, on which nothing is bound yet.
@@ -185,9 +181,7 @@ fn has_types(types: &[ColType], columns: &[ColumnDef]) -> bool
 }
 
 impl Wrapper for ListWrapper {
-    ghost use Rattle.fdw_api.specs.Scan.{restriction_form, spec_by};
-    ghost use Rattle.fdw_api.specs.State.{table_of};
-    ghost use Rattle.fdw_api.specs.Calls.{Allows};
+    ghost use Rattle.fdw_api.specs.Prelude.{restriction_form, spec_by, table_of, Allows};
     ghost use Rattle.list_wrapper.specs.ListBoxes.{box_of};
 
     ghost meaning = { box_of };
@@ -318,13 +312,8 @@ impl Wrapper for ListWrapper {
             broken: _,
         } = staged;
         let at = table as usize;
-        let rows = applied(alloc, &self.tables[at].rows, changes)?;
-        if rows.len() > ROW_LIMIT {
-            return Err(Fault::Refused(Cause::TooLarge));
-        }
         writes_are_typed();
-        self.tables[at].rows = rows;
-        Ok(())
+        apply(alloc, &mut self.tables[at].rows, changes)
     }
 
     fn ledger(&self) -> Counts {
@@ -338,9 +327,7 @@ impl Wrapper for ListWrapper {
 }
 
 impl Wrapper2 for ListWrapper {
-    ghost use Rattle.fdw_api.specs.Scan.{restriction_form};
-    ghost use Rattle.fdw_api.specs.State.{table_of};
-    ghost use Rattle.fdw_api.specs.Wishes.{wish_form, spec2_by, is_fair, AllowsPromise};
+    ghost use Rattle.fdw_api.specs.Prelude.{restriction_form, table_of, wish_form, spec2_by, is_fair, AllowsPromise};
     ghost use Rattle.list_wrapper.specs.ListBoxes.{box_of};
 
     /// Takes over every restriction, gives the wanted columns alone, and promises the order that is wished, and the limit if one is.

@@ -3,8 +3,7 @@ ghost use Rattle.std.specs.Prelude.{◌≡◌, true, None, map, option_map, IfOk
 ghost use Rattle.std.specs.Ordering.{nat_cmp};
 ghost use Rattle.std.specs.BTreeMap as tree;
 ghost use Rattle.med_value.specs.Datum.{datum, tuple, cell};
-ghost use Rattle.fdw_api.specs.Scan.{restriction_form, spec_of};
-ghost use Rattle.fdw_api.specs.Wishes.{key_form};
+ghost use Rattle.fdw_api.specs.Prelude.{restriction_form, spec_of, key_form};
 ghost use Rattle.wrapper_parts.specs.Scans.{Serves, Stands, sought, form_of, column_cells};
 ghost use Rattle.wrapper_parts.specs.Indexes.{IsIndexFrom};
 ghost use Rattle.list_wrapper.specs.Scans.{NextIs, NextOf, left_in_turn, left_by_keys, Arranges, is_spent, StandsAfter, Moves, ScanFits, spec_is, params_of, index_of, newer, index_in, one_less, numbered, rows_at};

@@ -4,11 +4,9 @@ use Rattle.std.proofs.lemmas.List.{length-map}
 use Rattle.std.proofs.Math.Seq.{drop-cons}
 use Rattle.tri_expr.specs.declared.expr.Expr.{Expr}
 use Rattle.tri_expr.specs.Tree.{Tree, tree}
-use Rattle.med_query.specs.Query.{Direction}
-use Rattle.med_query.specs.Form.{direction_of}
+use Rattle.med_query.specs.Prelude.{Direction, direction_of}
 use Rattle.med_query.specs.declared.select.SortDirection.{SortDirection}
-use Rattle.fdw_api.specs.Scan.{KeyForm}
-use Rattle.fdw_api.specs.Wishes.{key_form}
+use Rattle.fdw_api.specs.Prelude.{KeyForm, key_form}
 use Rattle.fdw_api.specs.declared.wishes.OrderKey.{OrderKey}
 use Rattle.scan_loops.specs.Ordered.{key_column, with_key, order_of}
 use Rattle.scan_loops.proofs.InOrder.{has_key}

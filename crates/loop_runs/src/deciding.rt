@@ -4,9 +4,7 @@ ghost use Rattle.med_value.specs.Datum.{tuple};
 ghost use Rattle.med_query.specs.Query.{keeps, senses};
 ghost use Rattle.tri_expr.specs.TreeParts.{is_risky};
 ghost use Rattle.pushdown.specs.Joins.{Each};
-ghost use Rattle.scan_loops.specs.Conjuncts.{safe_of};
-ghost use Rattle.scan_loops.specs.Ordered.{IsShownCore};
-ghost use Rattle.scan_loops.specs.Streamed.{all_safe, IsStreamedCore, IsStreamed};
+ghost use Rattle.scan_loops.specs.Prelude.{safe_of, IsShownCore, all_safe, IsStreamedCore, IsStreamed};
 ghost use Rattle.loop_runs.specs.Gathering.{levels_in, AreDecided};
 
 use med_query::{Select, SelectCore};

@@ -9,12 +9,9 @@ use Rattle.med_query.specs.Form.{Form, form_of}
 use Rattle.bind_names.proofs.Causes.{tells_left, tells_right, none_of_two}
 use Rattle.med_binder.specs.declared.bound.BoundEntry.{BoundEntry}
 use Rattle.med_binder.specs.declared.bound.BoundQuery.{BoundQuery}
-use Rattle.bind_names.specs.Scope.{TableShape}
-use Rattle.bind_names.specs.Naming.{statement_name_causes}
+use Rattle.bind_names.specs.Prelude.{TableShape, statement_name_causes, Output, Meant, core_outputs, meant_in, meant, TellsCause, Passes}
 use Rattle.bind_types.specs.Typing.{written_type_causes, form_causes, union_causes, answer_types, output_type_causes, select_type_causes, statement_type_causes}
-use Rattle.bind_names.specs.Meaning.{Output, Meant, core_outputs, meant_in, meant}
 use Rattle.med_binder.specs.Binding.{AsksMeant, bound_kinds, BindCauses, BindTells}
-use Rattle.bind_names.specs.Telling.{TellsCause, Passes}
 use Rattle.med_binder.specs.Looking.{IsLookedUp}
 use Rattle.med_binder.specs.Turns.{TellsInTurn, Binds, BindsKnown}
 

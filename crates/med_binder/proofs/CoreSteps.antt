@@ -1,15 +1,11 @@
 -- Names of the cores of a query, looked up part by part.
 use Rattle.std.proofs.Common.{◌≡◌, ℕ, ◌+◌, ◌<◌, List, [], ◌∷◌, ◌++◌, map, flat_map, drop, length, get_or, if◌then◌else◌, refl, ap, sym, subst, ◌∙◌}
 use Rattle.med_value.specs.declared.cause.Cause.{Cause}
-use Rattle.med_syntax.specs.QueryTree.{ItemTree, GroupTree, CoreTree, SelectTree, cores_of}
-use Rattle.med_syntax.specs.QueryView.{core_tree}
+use Rattle.med_syntax.specs.Prelude.{ItemTree, GroupTree, CoreTree, SelectTree, cores_of, core_tree}
 use Rattle.med_syntax.specs.declared.statement.Core.{Core}
 use Rattle.tri_expr.specs.Tree.{Tree}
 use Rattle.med_query.specs.Form.{CoreForm}
-use Rattle.bind_names.specs.Scope.{TableShape, Scope, columns_of, entries_of, from_scope}
-use Rattle.bind_names.specs.Naming.{chain_name_causes, item_name_causes, condition_name_causes, group_name_causes, core_causes_in, core_asked_causes, order_causes_in, order_name_causes, asked_causes}
-use Rattle.bind_names.specs.Meaning.{Output, outputs_of, output_values, core_outputs, is_empty, key_meant, key_place, Sorting, by_keys, by_places, keys_sorting, sorting_in, sorting_of, core_meant, cores_meant}
-use Rattle.bind_names.specs.Telling.{TellsCause}
+use Rattle.bind_names.specs.Prelude.{TableShape, Scope, columns_of, entries_of, from_scope, chain_name_causes, item_name_causes, condition_name_causes, group_name_causes, core_causes_in, core_asked_causes, order_causes_in, order_name_causes, asked_causes, Output, outputs_of, output_values, core_outputs, is_empty, key_meant, key_place, Sorting, by_keys, by_places, keys_sorting, sorting_in, sorting_of, core_meant, cores_meant, TellsCause}
 use Rattle.bind_names.proofs.Added.{added_after}
 use Rattle.bind_names.proofs.Causes.{tells_left, tells_right}
 use Rattle.bind_names.proofs.Parts.{drop_read}

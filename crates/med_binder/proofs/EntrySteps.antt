@@ -4,8 +4,7 @@ use Rattle.std.specs.Option.{is_some}
 use Rattle.std.proofs.lemmas.List.Elements.{All-append, All-cons, All-nil}
 use Rattle.med_value.specs.declared.cause.Cause.TheVariants.{UndefinedTable}
 use Rattle.med_syntax.specs.QueryTree.{EntryTree}
-use Rattle.bind_names.specs.Scope.{TableShape, place_named, entry_place}
-use Rattle.bind_names.specs.Naming.{entry_causes}
+use Rattle.bind_names.specs.Prelude.{TableShape, place_named, entry_place, entry_causes}
 use Rattle.bind_names.specs.declared.table.TableView.{TableView}
 use Rattle.med_binder.specs.Binding.{IsEntryOf}
 use Rattle.med_binder.specs.declared.bound.BoundEntry.{BoundEntry}

@@ -5,10 +5,8 @@ use Rattle.std.proofs.lemmas.Slice.Eq.{bytes_eq-Decides}
 use Rattle.med_value.specs.Column.{Column}
 use Rattle.med_value.specs.declared.cause.Cause.{Cause}
 use Rattle.med_value.specs.declared.cause.Cause.TheVariants.{UndefinedTable}
-use Rattle.med_syntax.specs.Tree.{Name}
-use Rattle.med_syntax.specs.QueryTree.{EntryTree}
-use Rattle.bind_names.specs.Scope.{TableShape, place_from, table_named, is_known}
-use Rattle.bind_names.specs.Naming.{entry_causes}
+use Rattle.med_syntax.specs.Prelude.{Name, EntryTree}
+use Rattle.bind_names.specs.Prelude.{TableShape, place_from, table_named, is_known, entry_causes}
 use Rattle.med_binder.specs.Looked.{gathered_shape}
 use Rattle.med_binder.proofs.Seen.{Sees, SeesAll}
 

@@ -3,24 +3,18 @@ use Rattle.std.proofs.Common.{◌≡◌, ℕ, zero, suc, ◌+◌, ◌-◌, ◌<�
 use Rattle.std.proofs.lemmas.List.{length-append, length-map, map-append}
 use Rattle.std.proofs.lemmas.List.Elements.{All-cons, All-nil, All-append}
 use Rattle.std.proofs.lemmas.Option.{slice_get-map}
-use Rattle.med_value.specs.Column.{Column}
-use Rattle.med_value.specs.Datum.{NoValue}
+use Rattle.med_value.specs.Prelude.{Column, NoValue}
 use Rattle.med_value.specs.declared.cause.Cause.{Cause}
 use Rattle.med_value.specs.declared.cause.Cause.TheVariants.{UndefinedTable}
 use Rattle.med_value.specs.declared.order.Comparison.{Comparison}
 use Rattle.med_value.specs.declared.value.ColType.{ColType}
 use Rattle.med_value.specs.declared.value.ColType.TheVariants.{Int, Text, Bool as Truth}
-use Rattle.med_syntax.specs.Tree.{Name}
+use Rattle.med_syntax.specs.Prelude.{Name, ExprTree, ExprTrees, EntryTree, JoinTree, inner_join, left_join, cross_join, ChainTree, CoreTree, cores_of, StatementTree, select}
 use Rattle.med_syntax.specs.declared.expr.Joint.TheVariants.{Or, And}
-use Rattle.med_syntax.specs.ExprTree.{ExprTree, ExprTrees}
 use Rattle.med_syntax.specs.ExprTree as expr
-use Rattle.med_syntax.specs.QueryTree.{EntryTree, JoinTree, inner_join, left_join, cross_join, ChainTree, CoreTree, cores_of, StatementTree, select}
 use Rattle.tri_expr.specs.declared.expr.SetFunction.{SetFunction}
-use Rattle.tri_expr.specs.Tree.{Tree, Trees, conjunct_trees, conjuncts_of_all, column, literal, compare, count_rows, none, part}
-use Rattle.tri_expr.specs.TreeParts.{bare}
-use Rattle.bind_names.specs.Scope.{TableShape, Scope, has_entry, candidates, columns_of, kind_at, kind_among, joined_entry, chain_entries, entries_of, query_entries, entry_columns, entry_shape, from_scope}
-use Rattle.bind_names.specs.Naming.{counted_causes, column_causes, name_causes, name_causes_of_all, item_name_causes, condition_name_causes, on_name_causes, joins_name_causes, chain_name_causes, group_name_causes, core_asked_causes, order_name_causes, NameCauses}
-use Rattle.bind_names.specs.Meaning.{one_place, function_named, aggregate_of, resolved, resolved_all, conditions_of, join_meant, with_join, joins_meant, chain_meant, chains_meant, Sorting, sorting_of, core_meant, cores_meant, meant, meant_in}
+use Rattle.tri_expr.specs.Prelude.{Tree, Trees, conjunct_trees, conjuncts_of_all, column, literal, compare, count_rows, none, part, bare}
+use Rattle.bind_names.specs.Prelude.{TableShape, Scope, has_entry, candidates, columns_of, kind_at, kind_among, joined_entry, chain_entries, entries_of, query_entries, entry_columns, entry_shape, from_scope, counted_causes, column_causes, name_causes, name_causes_of_all, item_name_causes, condition_name_causes, on_name_causes, joins_name_causes, chain_name_causes, group_name_causes, core_asked_causes, order_name_causes, NameCauses, one_place, function_named, aggregate_of, resolved, resolved_all, conditions_of, join_meant, with_join, joins_meant, chain_meant, chains_meant, Sorting, sorting_of, core_meant, cores_meant, meant, meant_in}
 use Rattle.bind_types.specs.Typing.{type_of, comparing, as_condition, type_causes, condition_causes, condition_type_causes, item_type_causes, on_type_causes, joins_type_causes, chain_type_causes, core_written_causes, order_type_causes, written_type_causes, form_causes, output_type_causes, select_type_causes, TypeCauses}
 use Rattle.med_binder.specs.Alike.{kinds_among, kinds, from_kinds, all_kinds, core_kinds, kinds_between, AreAlike, ComparesAlike, JoinAlike, ChainAlike, CoreAlike, FormAlike}
 use Rattle.med_binder.proofs.LawEntries.{left_empty, right_empty, none_stands, no_asked}

@@ -8,8 +8,7 @@ use Rattle.std.proofs.lemmas.List.Sums.{sum_by-cons}
 use Rattle.med_value.specs.Limits.{entry_limit, column_limit}
 use Rattle.med_syntax.specs.QueryTree.{EntryTree, JoinTree, inner_join, left_join, cross_join, ChainTree, CoreTree, cores_of, StatementTree, select}
 use Rattle.med_query.specs.Form.{ChainForm, CoreForm}
-use Rattle.bind_names.specs.Scope.{TableShape, Scope, joined_entry, chain_entries, entries_of, query_entries, query_scope, entry_columns, entry_shape, entry_place, place_named}
-use Rattle.bind_names.specs.Meaning.{join_meant, with_join, joins_meant, chain_meant, chains_meant, Sorting, sorting_of, core_meant, cores_meant, meant}
+use Rattle.bind_names.specs.Prelude.{TableShape, Scope, joined_entry, chain_entries, entries_of, query_entries, query_scope, entry_columns, entry_shape, entry_place, place_named, join_meant, with_join, joins_meant, chain_meant, chains_meant, Sorting, sorting_of, core_meant, cores_meant, meant}
 use Rattle.med_binder.specs.Within.{widths, widths_of}
 use Rattle.med_binder.specs.Counted.{SaysWidth, core_numbers, core_widths, CoreCounts, FormCounts, AreNarrow}
 use Rattle.med_binder.proofs.LawViews.{as_many_widths}

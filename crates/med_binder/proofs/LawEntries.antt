@@ -4,11 +4,8 @@ use Rattle.std.specs.Option.{is_some}
 use Rattle.std.proofs.lemmas.List.Elements.{All-cons, All-nil}
 use Rattle.med_value.specs.declared.cause.Cause.{Cause}
 use Rattle.med_value.specs.declared.cause.Cause.TheVariants.{UndefinedTable}
-use Rattle.med_syntax.specs.Tree.{Name}
-use Rattle.med_syntax.specs.QueryTree.{EntryTree, SelectTree, cores_of, StatementTree, select}
-use Rattle.bind_names.specs.Scope.{TableShape, query_entries, place_from, place_named, entry_place}
-use Rattle.bind_names.specs.Naming.{entry_causes, core_alias_causes, entered_causes, asked_causes, once_known, statement_name_causes, NameCauses}
-use Rattle.bind_names.specs.Meaning.{meant}
+use Rattle.med_syntax.specs.Prelude.{Name, EntryTree, SelectTree, cores_of, StatementTree, select}
+use Rattle.bind_names.specs.Prelude.{TableShape, query_entries, place_from, place_named, entry_place, entry_causes, core_alias_causes, entered_causes, asked_causes, once_known, statement_name_causes, NameCauses, meant}
 use Rattle.med_binder.specs.Within.{ArePlacesOf}
 
 -- ---- lists without elements

@@ -6,18 +6,15 @@ use Rattle.med_value.specs.declared.cause.Cause.{Cause}
 use Rattle.med_value.specs.declared.cause.Cause.TheVariants.{UndefinedTable, UndefinedColumn, AmbiguousColumn, DuplicateAlias, InvalidColumnReference, MisplacedName, DatatypeMismatch, UndefinedFunction, Grouping, InvalidEscape, FeatureNotSupported, ValuesSyntax}
 use Rattle.med_value.specs.declared.value.ColType.{ColType}
 use Rattle.med_value.specs.declared.value.ColType.TheVariants.{Int, Text}
-use Rattle.med_syntax.specs.Tree.{Name}
+use Rattle.med_syntax.specs.Prelude.{Name, ExprTree, ExprTrees, num, negative, text, truth, null, column, call_all, call, paren, minus, binary, between, among, like, compare, tested, negation, chain, none, more}
 use Rattle.med_value.specs.declared.operators.Status.{Status}
 use Rattle.med_value.specs.declared.operators.Status.TheVariants as statuses
-use Rattle.med_syntax.specs.ExprTree.{ExprTree, ExprTrees, num, negative, text, truth, null, column, call_all, call, paren, minus, binary, between, among, like, compare, tested, negation, chain, none, more}
 use Rattle.med_syntax.specs.QueryTree.{ItemTree, all, all_of, value, EntryTree, JoinTree, inner_join, left_join, cross_join, GroupTree, KeyTree, CoreTree, SelectTree, cores_of, StatementTree, select}
 use Rattle.tri_expr.specs.declared.expr.SetFunction.{SetFunction}
 use Rattle.tri_expr.specs.declared.expr.SetFunction.TheVariants.{Count, Sum, Min, Max}
 use Rattle.tri_expr.specs.Tree.{Tree}
 use Rattle.med_query.specs.Form.{JoinForm, cross_form, inner_form, left_form, ChainForm, GroupForm, CoreForm, Form}
-use Rattle.bind_names.specs.Scope.{TableShape, Scope, has_entry, candidates, exposed_name, entries_of, query_entries, is_known, entry_shape, from_scope}
-use Rattle.bind_names.specs.Meaning.{Output, SortKey, position, output_name, expression, is_named, sort_key, places_named, is_empty, core_outputs, function_named, resolved, with_join, meant_in}
-use Rattle.bind_names.specs.Naming.{counted_causes, column_causes, name_causes, name_causes_of_all, star_causes, item_name_causes, condition_name_causes, on_name_causes, joins_name_causes, chain_name_causes, group_name_causes, are_same, distinct_causes, sort_key_causes, key_name_causes, entry_causes, alias_causes, core_asked_causes, twice_causes, output_key_causes, place_name_causes, order_name_causes, core_alias_causes, entered_causes, asked_causes, once_known, statement_name_causes, NameCauses}
+use Rattle.bind_names.specs.Prelude.{TableShape, Scope, has_entry, candidates, exposed_name, entries_of, query_entries, is_known, entry_shape, from_scope, Output, SortKey, position, output_name, expression, is_named, sort_key, places_named, is_empty, core_outputs, function_named, resolved, with_join, meant_in, counted_causes, column_causes, name_causes, name_causes_of_all, star_causes, item_name_causes, condition_name_causes, on_name_causes, joins_name_causes, chain_name_causes, group_name_causes, are_same, distinct_causes, sort_key_causes, key_name_causes, entry_causes, alias_causes, core_asked_causes, twice_causes, output_key_causes, place_name_causes, order_name_causes, core_alias_causes, entered_causes, asked_causes, once_known, statement_name_causes, NameCauses}
 use Rattle.bind_types.specs.Typing.{type_of, types_of, takes, have_one_type, unless, comparing, as_number, as_text, as_ordered, as_call_all, as_call, as_condition, as_tested, ends_in_escape, as_pattern, type_causes, type_causes_of_all, condition_causes, item_type_causes, as_where, condition_type_causes, on_type_causes, joins_type_causes, chain_type_causes, sort_key_type_causes, key_type_causes, no_aggregate, no_risk, join_causes, chain_causes, grouping_causes, core_causes, form_causes, core_written_causes, order_type_causes, written_type_causes, answer_types, place_causes, in_place, output_type_causes, statement_type_causes, TypeCauses}
 use Rattle.med_value.specs.Causes.{phase_of}
 

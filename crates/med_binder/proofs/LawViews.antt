@@ -2,23 +2,18 @@
 use Rattle.std.proofs.Common.{◌≡◌, ℕ, suc, ◌+◌, ◌-◌, ◌<◌, ◌≤◌, Bool, true, false, List, [], ◌∷◌, ◌++◌, Option, Some, None, All, flat_map, map, filter, take, drop, sum, length, codes, bytes_eq, refl, sym, ap, subst, ◌∙◌, if◌then◌else◌, arith, length-append, drop-drop, append_assoc, zero}
 use Rattle.std.proofs.lemmas.List.Elements.{All-cons, All-nil, All-append, All-head, All-tail, All-drop, All-filter, All-map}
 use Rattle.std.proofs.lemmas.List.Sums.{sum_by-cons}
-use Rattle.med_value.specs.Column.{Column}
+use Rattle.med_value.specs.Prelude.{Column, NoValue}
 use Rattle.med_value.specs.declared.cause.Cause.{Cause}
 use Rattle.med_value.specs.declared.cause.Cause.TheVariants.{UndefinedTable}
-use Rattle.med_syntax.specs.Tree.{Name}
+use Rattle.med_syntax.specs.Prelude.{Name, ExprTree, ExprTrees}
 use Rattle.med_syntax.specs.declared.expr.Joint.{Joint}
 use Rattle.med_syntax.specs.declared.expr.Joint.TheVariants.{Or, And}
-use Rattle.med_syntax.specs.ExprTree.{ExprTree, ExprTrees}
 use Rattle.med_syntax.specs.ExprTree as expr
 use Rattle.med_syntax.specs.QueryTree.{ItemTree, all, all_of as all_of_entry, value, EntryTree, JoinTree, inner_join, left_join, cross_join, ChainTree, GroupTree, KeyTree, CoreTree, cores_of, StatementTree, select}
 use Rattle.tri_expr.specs.declared.expr.SetFunction.{SetFunction}
-use Rattle.tri_expr.specs.Tree.{Tree, Trees, conjunct_trees, conjuncts_of_all, column, parameter, literal, compare, compute, negate, all_of, some_of, opposite, asks, between, within, matches, parenthesised, count_rows, aggregate, none, part}
-use Rattle.tri_expr.specs.TreeParts.{arguments_in, arguments_in_all}
+use Rattle.tri_expr.specs.Prelude.{Tree, Trees, conjunct_trees, conjuncts_of_all, column, parameter, literal, compare, compute, negate, all_of, some_of, opposite, asks, between, within, matches, parenthesised, count_rows, aggregate, none, part, arguments_in, arguments_in_all}
 use Rattle.med_query.specs.Form.{GroupForm}
-use Rattle.med_value.specs.Datum.{NoValue}
-use Rattle.bind_names.specs.Scope.{TableShape, Scope, is_meant, has_entry, places_from, candidates_from, candidates, columns_of, joined_entry, chain_entries, entries_of, query_entries, entry_columns, entry_shape, from_scope}
-use Rattle.bind_names.specs.Naming.{counted_causes, column_causes, name_causes, name_causes_of_all, item_name_causes, condition_name_causes, on_name_causes, joins_name_causes, chain_name_causes, group_name_causes, distinct_causes, sort_key_causes, key_name_causes, core_asked_causes, place_name_causes, order_name_causes, NameCauses}
-use Rattle.bind_names.specs.Meaning.{Output, one_place, joined, function_named, aggregate_of, resolved, resolved_all, columns_from, starred, item_outputs, outputs_of, conditions_of, SortKey, position, output_name, expression, is_named, sort_key, first_value, sorted_by, key_meant, join_meant, with_join, joins_meant, chain_meant, chains_meant, group_place, is_empty, groups_rows, group_meant, key_place, core_outputs, output_values, Sorting, by_keys, by_places, item_at, keys_sorting, core_meant, cores_meant, meant}
+use Rattle.bind_names.specs.Prelude.{TableShape, Scope, is_meant, has_entry, places_from, candidates_from, candidates, columns_of, joined_entry, chain_entries, entries_of, query_entries, entry_columns, entry_shape, from_scope, counted_causes, column_causes, name_causes, name_causes_of_all, item_name_causes, condition_name_causes, on_name_causes, joins_name_causes, chain_name_causes, group_name_causes, distinct_causes, sort_key_causes, key_name_causes, core_asked_causes, place_name_causes, order_name_causes, NameCauses, Output, one_place, joined, function_named, aggregate_of, resolved, resolved_all, columns_from, starred, item_outputs, outputs_of, conditions_of, SortKey, position, output_name, expression, is_named, sort_key, first_value, sorted_by, key_meant, join_meant, with_join, joins_meant, chain_meant, chains_meant, group_place, is_empty, groups_rows, group_meant, key_place, core_outputs, output_values, Sorting, by_keys, by_places, item_at, keys_sorting, core_meant, cores_meant, meant}
 use Rattle.med_binder.specs.Within.{IsWithin, AreWithin, widths, widths_of, width_between, JoinWithin, ChainWithin, GroupWithin, CoreWithin, FormWithin}
 use Rattle.med_binder.specs.Counted.{core_widths}
 use Rattle.med_binder.proofs.LawEntries.{left_empty, right_empty, no_asked}

@@ -2,10 +2,7 @@
 use Rattle.std.proofs.Common.{◌≡◌, inl, inr, List, [], ◌∷◌, map, flat_map, refl, ap, sym, subst, ◌∙◌, arith}
 use Rattle.med_value.specs.declared.cause.Cause.{Cause}
 use Rattle.med_syntax.specs.QueryTree.{EntryTree, CoreTree, SelectTree, cores_of}
-use Rattle.bind_names.specs.Scope.{TableShape, visible, exposed_name, entry_shape, entries_of, query_entries, from_scope}
-use Rattle.bind_names.specs.Naming.{entry_causes, alias_causes, core_alias_causes, core_asked_causes, order_name_causes, entered_causes, asked_causes, once_known, select_name_causes}
-use Rattle.bind_names.specs.Seen.{name_of}
-use Rattle.bind_names.specs.Telling.{TellsCause}
+use Rattle.bind_names.specs.Prelude.{TableShape, visible, exposed_name, entry_shape, entries_of, query_entries, from_scope, entry_causes, alias_causes, core_alias_causes, core_asked_causes, order_name_causes, entered_causes, asked_causes, once_known, select_name_causes, name_of, TellsCause}
 use Rattle.bind_names.specs.declared.scope.Visible.{Visible}
 use Rattle.bind_names.proofs.Causes.{tells_left, tells_right, none_of_two}
 

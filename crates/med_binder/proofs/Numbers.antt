@@ -3,8 +3,7 @@ use Rattle.std.proofs.Common.{◌≡◌, ℕ, zero, suc, ◌+◌, List, [], ◌�
 use Rattle.std.specs.List.{range_with_len}
 use Rattle.std.proofs.lemmas.List.{length-map, length-append}
 use Rattle.med_syntax.specs.QueryTree.{EntryTree, JoinTree, inner_join, left_join, cross_join, ChainTree, CoreTree}
-use Rattle.bind_names.specs.Scope.{TableShape, Scope, joined_entry, chain_entries, entries_of, entry_columns, entry_shape}
-use Rattle.bind_names.specs.Meaning.{join_meant, with_join, joins_meant, chain_meant, chains_meant, Sorting, core_meant, cores_meant}
+use Rattle.bind_names.specs.Prelude.{TableShape, Scope, joined_entry, chain_entries, entries_of, entry_columns, entry_shape, join_meant, with_join, joins_meant, chain_meant, chains_meant, Sorting, core_meant, cores_meant}
 use Rattle.med_binder.specs.Within.{widths}
 use Rattle.med_binder.specs.Counted.{joined_number, chain_numbers, core_numbers, core_widths}
 

@@ -3,13 +3,9 @@ use Rattle.std.proofs.Common.{◌≡◌, ◌⊎◌, inl, inr, ℕ, true, List, [
 use Rattle.std.proofs.lemmas.List.Elements.{Contains-append_left}
 use Rattle.med_value.specs.declared.cause.Cause.{Cause}
 use Rattle.med_value.specs.declared.cause.Cause.TheVariants.{OutOfMemory}
-use Rattle.med_syntax.specs.Tree.{Name}
-use Rattle.med_syntax.specs.QueryTree.{EntryTree, SelectTree, StatementTree, select, cores_of}
-use Rattle.med_syntax.specs.QueryView.{select_tree}
+use Rattle.med_syntax.specs.Prelude.{Name, EntryTree, SelectTree, StatementTree, select, cores_of, select_tree}
 use Rattle.med_query.specs.Select.{are_safe_cores}
-use Rattle.bind_names.specs.Scope.{TableShape, table_shape, query_entries, entry_columns, entry_shape}
-use Rattle.bind_names.specs.Naming.{entry_causes, core_alias_causes, entered_causes, asked_causes, once_known, select_name_causes}
-use Rattle.bind_names.specs.Telling.{TellsCause}
+use Rattle.bind_names.specs.Prelude.{TableShape, table_shape, query_entries, entry_columns, entry_shape, entry_causes, core_alias_causes, entered_causes, asked_causes, once_known, select_name_causes, TellsCause}
 use Rattle.bind_names.specs.declared.table.TableView.{TableView}
 use Rattle.bind_types.specs.Typing.{select_type_causes}
 use Rattle.med_binder.specs.Within.{widths}

@@ -3,12 +3,9 @@ use Rattle.std.proofs.Common.{◌≡◌, inl, inr, List, [], ◌∷◌, Option, 
 use Rattle.std.proofs.lemmas.List.Elements.{All-append, All-cons, All-contains, All-nil}
 use Rattle.med_value.specs.declared.cause.Cause.{Cause}
 use Rattle.med_value.specs.declared.cause.Cause.TheVariants.{UndefinedObject}
-use Rattle.med_syntax.specs.Tree.{Name}
-use Rattle.med_syntax.specs.QueryTree.{EntryTree, SelectTree, select}
+use Rattle.med_syntax.specs.Prelude.{Name, EntryTree, SelectTree, select}
 use Rattle.bind_names.specs.Scope.{query_entries}
-use Rattle.med_catalog.specs.Objects.{TableObject, Objects, table_named}
-use Rattle.med_catalog.specs.Rights.{mode_for}
-use Rattle.med_catalog.specs.DdlCauses.{phase}
+use Rattle.med_catalog.specs.Prelude.{TableObject, Objects, table_named, mode_for, phase}
 use Rattle.med_catalog.specs.declared.kind.Mode.{Mode}
 use Rattle.med_binder.proofs.LawPhases.{names_are_of_phase, types_are_of_phase}
 use Rattle.med_binder.specs.Barred.{reading_causes, table_causes, query_right_causes}

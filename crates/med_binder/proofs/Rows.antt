@@ -6,11 +6,10 @@ use Rattle.std.specs.Option.{option_map, is_some}
 use Rattle.std.specs.List.{IsDistinct, AllByRecursion}
 use Rattle.std.proofs.lemmas.Bool.{false≢true}
 use Rattle.std.proofs.lemmas.Slice.Eq.{bytes_eq-Decides}
+use Rattle.std.proofs.lemmas.Option.{same_Some}
 use Rattle.med_value.specs.declared.cause.Cause.TheVariants.{UndefinedTable}
-use Rattle.med_syntax.specs.Tree.{Name}
-use Rattle.med_syntax.specs.QueryTree.{EntryTree}
-use Rattle.bind_names.specs.Scope.{TableShape, place_from, entry_columns}
-use Rattle.bind_names.specs.Naming.{entry_causes}
+use Rattle.med_syntax.specs.Prelude.{Name, EntryTree}
+use Rattle.bind_names.specs.Prelude.{TableShape, place_from, entry_columns, entry_causes}
 use Rattle.med_catalog.specs.Objects.{TableObject, Objects, table_named}
 use Rattle.med_binder.specs.Tables.{shape_of, shapes}
 use Rattle.med_binder.specs.Place.{Place}
@@ -57,13 +56,10 @@ first_by : (b : Bool) (at : ℕ) (p r : Option ℕ) → b ≡ false → p ≡ r 
 first_by true at p r e h = absurd (false≢true (sym e))
 first_by false at p r e h = h
 
-some_same : {X : Type 0} (x y : X) → Some x ≡ Some y → x ≡ y
-some_same x y e = cc
-
 -- a name is not one that stands behind another, where each stands once
 apart : (n : Name) (ts : List TableObject) (k : ℕ) (t : TableObject) → AllByRecursion (λ m. bytes_eq n m ≡ false) (map (λ (x : TableObject). x.name) ts) → slice_get ts k ≡ Some t → bytes_eq n t.name ≡ false
 apart n [] k t h at = absurd cc
-apart n (x ∷ xs) zero t h at = subst (λ (y : TableObject). bytes_eq n y.name ≡ false) (some_same x t at) h.0
+apart n (x ∷ xs) zero t h at = subst (λ (y : TableObject). bytes_eq n y.name ≡ false) (same_Some x t at) h.0
 apart n (x ∷ xs) (suc k) t h at = apart n xs k t h.1 at
 
 -- a table's place is the first of its name, where each name stands once
@@ -71,7 +67,7 @@ pub place_found : (ts : List TableObject) (n : Name) (k : ℕ) (t : TableObject)
 unfolding IsDistinct
 place_found [] n k t h at is = absurd cc
 place_found (x ∷ xs) n zero t h at is =
-    let same : bytes_eq x.name n ≡ true = (bytes_eq-Decides x.name n).1 (ap (λ (y : TableObject). y.name) (some_same x t at) ∙ is) in
+    let same : bytes_eq x.name n ≡ true = (bytes_eq-Decides x.name n).1 (ap (λ (y : TableObject). y.name) (same_Some x t at) ∙ is) in
     ap (λ (b : Bool). if b then Some 0 else place_from 1 (map shape_of xs) n) same
 place_found (x ∷ xs) n (suc k) t h at is =
     let other : bytes_eq x.name n ≡ false = ap (bytes_eq x.name) (sym is) ∙ apart x.name xs k t h.0 at in

@@ -5,9 +5,7 @@ use Rattle.med_value.specs.declared.cause.Cause.{Cause}
 use Rattle.med_value.specs.declared.cause.Cause.TheVariants.{UndefinedTable}
 use Rattle.med_syntax.specs.QueryTree.{EntryTree, JoinTree, ChainTree, CoreTree, SelectTree, cores_of}
 use Rattle.med_query.specs.Form.{ChainForm, CoreForm, Form}
-use Rattle.bind_names.specs.Scope.{TableShape, Scope, is_known, entry_columns, entry_shape, joined_entry, chain_entries, entries_of, query_entries, columns_of, exposed_name, from_scope}
-use Rattle.bind_names.specs.Meaning.{Output, outputs_of, output_values, core_outputs, conditions_of, group_meant, key_direction, limit_of, with_join, join_meant, joins_meant, chain_meant, chains_meant, Sorting, keys_sorting, sorting_in, sorting_of, core_meant, cores_meant, meant_in}
-use Rattle.bind_names.specs.Naming.{entry_causes, joins_name_causes, on_name_causes, chain_name_causes, item_name_causes, condition_name_causes, group_name_causes, core_asked_causes, order_causes_in, order_name_causes, core_alias_causes, entered_causes, asked_causes, once_known, select_name_causes}
+use Rattle.bind_names.specs.Prelude.{TableShape, Scope, is_known, entry_columns, entry_shape, joined_entry, chain_entries, entries_of, query_entries, columns_of, exposed_name, from_scope, Output, outputs_of, output_values, core_outputs, conditions_of, group_meant, key_direction, limit_of, with_join, join_meant, joins_meant, chain_meant, chains_meant, Sorting, keys_sorting, sorting_in, sorting_of, core_meant, cores_meant, meant_in, entry_causes, joins_name_causes, on_name_causes, chain_name_causes, item_name_causes, condition_name_causes, group_name_causes, core_asked_causes, order_causes_in, order_name_causes, core_alias_causes, entered_causes, asked_causes, once_known, select_name_causes}
 use Rattle.bind_types.specs.TreeTypes.{tree_type, column_kinds}
 use Rattle.bind_types.specs.Typing.{joins_type_causes, on_type_causes, chain_type_causes, item_type_causes, condition_type_causes, key_type_causes, core_written_causes, order_type_causes, written_type_causes, form_causes, core_types, answer_types, union_causes, output_type_causes, select_type_causes}
 

@@ -9,9 +9,7 @@ use Rattle.med_value.specs.declared.cause.Cause.{Cause}
 use Rattle.med_value.specs.declared.cause.Cause.TheVariants.{UndefinedTable}
 use Rattle.med_syntax.specs.QueryTree.{EntryTree, cores_of, StatementTree, select}
 use Rattle.med_query.specs.Form.{Form, form_of}
-use Rattle.bind_names.specs.Scope.{TableShape, table_shape, query_entries, entry_place, place_named}
-use Rattle.bind_names.specs.Naming.{entry_causes, core_alias_causes, entered_causes, asked_causes, statement_name_causes}
-use Rattle.bind_names.specs.Meaning.{meant}
+use Rattle.bind_names.specs.Prelude.{TableShape, table_shape, query_entries, entry_place, place_named, entry_causes, core_alias_causes, entered_causes, asked_causes, statement_name_causes, meant}
 use Rattle.bind_names.specs.declared.table.TableView.{TableView}
 use Rattle.bind_types.specs.Typing.{statement_type_causes}
 use Rattle.med_binder.specs.Binding.{IsMeant, IsEntryOf}

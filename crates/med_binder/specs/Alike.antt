@@ -5,8 +5,7 @@ use Rattle.med_value.specs.declared.value.ColType.{ColType}
 use Rattle.med_value.specs.declared.order.Comparison.{Comparison}
 use Rattle.med_value.specs.Column.{Column}
 use Rattle.med_syntax.specs.QueryTree.{StatementTree, select}
-use Rattle.tri_expr.specs.Tree.{Tree, column, compare}
-use Rattle.tri_expr.specs.TreeParts.{bare}
+use Rattle.tri_expr.specs.Prelude.{Tree, column, compare, bare}
 use Rattle.med_query.specs.Form.{JoinForm, cross_form, inner_form, left_form, ChainForm, CoreForm, Form}
 use Rattle.bind_names.specs.Scope.{TableShape, Scope, query_scope}
 use Rattle.med_binder.specs.Counted.{core_numbers}

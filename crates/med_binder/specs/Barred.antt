@@ -3,13 +3,11 @@
 use Rattle.std.specs.Prelude.{List, [], ◌∷◌, Option, Some, None, flat_map}
 use Rattle.med_value.specs.declared.cause.Cause.{Cause}
 use Rattle.med_value.specs.declared.cause.Cause.TheVariants.{UndefinedObject, NoPrivilege}
-use Rattle.med_syntax.specs.Tree.{Name}
-use Rattle.med_syntax.specs.QueryTree.{EntryTree, SelectTree}
+use Rattle.med_syntax.specs.Prelude.{Name, EntryTree, SelectTree}
 use Rattle.bind_names.specs.Scope.{query_entries}
 use Rattle.med_catalog.specs.declared.kind.Mode.{Mode}
 use Rattle.med_catalog.specs.declared.kind.Mode.TheVariants.{Read, Write}
-use Rattle.med_catalog.specs.Objects.{TableObject, Objects, table_named}
-use Rattle.med_catalog.specs.Rights.{mode_for}
+use Rattle.med_catalog.specs.Prelude.{TableObject, Objects, table_named, mode_for}
 
 -- 42704 without a mapping
 abbrev pub reading_causes : Option Mode → List Cause

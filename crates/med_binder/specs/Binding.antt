@@ -4,11 +4,9 @@ use Rattle.med_value.specs.declared.cause.Cause.{Cause}
 use Rattle.med_value.specs.declared.value.ColType.{ColType}
 use Rattle.med_syntax.specs.QueryTree.{StatementTree, select}
 use Rattle.med_query.specs.Form.{form_of}
-use Rattle.bind_names.specs.Scope.{TableShape}
-use Rattle.bind_names.specs.Naming.{NameCauses}
+use Rattle.bind_names.specs.Prelude.{TableShape, NameCauses, Meant, meant}
 use Rattle.bind_types.specs.Kinds.{types_in}
 use Rattle.bind_types.specs.Typing.{answer_types, TypeCauses}
-use Rattle.bind_names.specs.Meaning.{Meant, meant}
 use Rattle.bind_names.specs.declared.table.TableView.{TableView}
 use Rattle.med_binder.specs.declared.bound.BoundEntry.{BoundEntry}
 use Rattle.med_binder.specs.declared.bound.BoundQuery.{BoundQuery}

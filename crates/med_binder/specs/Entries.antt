@@ -2,9 +2,7 @@
 use Rattle.std.specs.Prelude.{◌≡◌, List, [], map, All, flat_map, Result, Ok, Err, Vec}
 use Rattle.med_value.specs.declared.cause.Cause.{Cause}
 use Rattle.med_syntax.specs.QueryTree.{EntryTree}
-use Rattle.bind_names.specs.Scope.{table_shape, entry_place}
-use Rattle.bind_names.specs.Naming.{entry_causes}
-use Rattle.bind_names.specs.Telling.{TellsCause}
+use Rattle.bind_names.specs.Prelude.{table_shape, entry_place, entry_causes, TellsCause}
 use Rattle.bind_names.specs.declared.table.TableView.{TableView}
 use Rattle.med_binder.specs.Binding.{IsEntryOf}
 use Rattle.med_binder.specs.declared.bound.BoundEntry.{BoundEntry}

@@ -11,3 +11,4 @@ pub mod Barred
 pub mod Queries
 pub mod Places
 pub mod Looked
+pub mod Prelude

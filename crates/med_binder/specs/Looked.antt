@@ -2,13 +2,9 @@
 use Rattle.std.specs.Prelude.{◌≡◌, ◌⊎◌, List, [], map, flat_map, length, Contains, true, Option, slice_get, Result, Ok, Err}
 use Rattle.med_value.specs.declared.cause.Cause.{Cause}
 use Rattle.med_value.specs.declared.cause.Cause.TheVariants.{OutOfMemory}
-use Rattle.med_syntax.specs.Tree.{Name}
-use Rattle.med_syntax.specs.QueryTree.{EntryTree, SelectTree, StatementTree, select}
-use Rattle.med_syntax.specs.QueryView.{select_tree}
+use Rattle.med_syntax.specs.Prelude.{Name, EntryTree, SelectTree, StatementTree, select, select_tree}
 use Rattle.med_query.specs.Select.{are_safe_cores}
-use Rattle.bind_names.specs.Scope.{TableShape, table_shape, entry_place, entry_columns, query_entries, query_scope}
-use Rattle.bind_names.specs.Naming.{entry_causes, select_name_causes}
-use Rattle.bind_names.specs.Telling.{TellsCause}
+use Rattle.bind_names.specs.Prelude.{TableShape, table_shape, entry_place, entry_columns, query_entries, query_scope, entry_causes, select_name_causes, TellsCause}
 use Rattle.bind_names.specs.declared.table.TableView.{TableView}
 use Rattle.bind_types.specs.Typing.{answer_types, select_type_causes}
 use Rattle.med_binder.specs.Binding.{IsMeant, bound_kinds}

@@ -6,10 +6,7 @@ use Rattle.med_syntax.specs.QueryTree.{CoreTree, SelectTree}
 use Rattle.tri_expr.specs.Tree.{Tree, tree}
 use Rattle.med_query.specs.Form.{CoreForm, chain_form, core_form}
 use Rattle.med_query.specs.declared.select.SelectCore.{SelectCore}
-use Rattle.bind_names.specs.Scope.{TableShape, Scope, columns_of, entries_of}
-use Rattle.bind_names.specs.Naming.{chain_name_causes, condition_name_causes, group_name_causes, core_causes_in, core_asked_causes, order_name_causes, asked_causes, select_name_causes}
-use Rattle.bind_names.specs.Meaning.{Output, output_values, core_outputs, conditions_of, chains_meant, group_place, groups_rows, group_of, group_meant, Sorting, by_keys, by_places, keys_sorting, sorting_of, core_meant, cores_meant, meant_in}
-use Rattle.bind_names.specs.Telling.{TellsCause}
+use Rattle.bind_names.specs.Prelude.{TableShape, Scope, columns_of, entries_of, chain_name_causes, condition_name_causes, group_name_causes, core_causes_in, core_asked_causes, order_name_causes, asked_causes, select_name_causes, Output, output_values, core_outputs, conditions_of, chains_meant, group_place, groups_rows, group_of, group_meant, Sorting, by_keys, by_places, keys_sorting, sorting_of, core_meant, cores_meant, meant_in, TellsCause}
 use Rattle.bind_types.specs.Kinds.{types_in}
 use Rattle.bind_types.specs.TreeTypes.{tree_type, column_kinds}
 use Rattle.bind_types.specs.Typing.{core_types, answer_types}

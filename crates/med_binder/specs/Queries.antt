@@ -2,10 +2,8 @@
 use Rattle.std.specs.Prelude.{◌≡◌, ◌⊎◌, Contains}
 use Rattle.med_value.specs.declared.cause.Cause.{Cause}
 use Rattle.med_value.specs.declared.cause.Cause.TheVariants.{OutOfMemory}
-use Rattle.med_syntax.specs.Tree.{Name}
-use Rattle.med_syntax.specs.QueryTree.{SelectTree}
-use Rattle.bind_names.specs.Meaning.{Meant, meant_in}
-use Rattle.bind_names.specs.Naming.{select_name_causes}
+use Rattle.med_syntax.specs.Prelude.{Name, SelectTree}
+use Rattle.bind_names.specs.Prelude.{Meant, meant_in, select_name_causes}
 use Rattle.bind_types.specs.Typing.{select_type_causes}
 use Rattle.med_catalog.specs.Objects.{Objects}
 use Rattle.med_binder.specs.Tables.{shapes}

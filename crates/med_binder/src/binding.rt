@@ -2,9 +2,7 @@
 
 ghost use Rattle.std.specs.Prelude.{◌≡◌, ◌⊎◌, List, length, map, true, IfOk, OnOk, IfErr};
 ghost use Rattle.med_value.specs.declared.cause.Cause.{Cause as AnyCause};
-ghost use Rattle.med_syntax.specs.QueryTree.{SelectTree};
-ghost use Rattle.med_syntax.specs.QueryView.{statement_tree};
-ghost use Rattle.med_syntax.specs.Tree.{Name};
+ghost use Rattle.med_syntax.specs.Prelude.{SelectTree, statement_tree, Name};
 ghost use Rattle.med_query.specs.Select.{are_safe_cores};
 ghost use Rattle.bind_names.specs.Scope.{query_scope};
 ghost use Rattle.bind_types.specs.Typing.{answer_types};
@@ -12,8 +10,7 @@ ghost use Rattle.med_binder.specs.Binding.{IsMeant, bound_kinds};
 ghost use Rattle.med_binder.specs.Counted.{bound_widths};
 ghost use Rattle.med_binder.specs.Within.{widths};
 ghost use Rattle.med_binder.specs.Place.{entry_place};
-ghost use Rattle.med_catalog.specs.Objects.{Objects};
-ghost use Rattle.med_catalog.specs.View.{objects};
+ghost use Rattle.med_catalog.specs.Prelude.{Objects, objects};
 ghost use Rattle.med_binder.specs.Tables.{shapes, AreNamedOnce};
 ghost use Rattle.med_binder.specs.Places.{Attached, attached, ArePlaces};
 ghost use Rattle.med_binder.specs.Queries.{meant_by, QueryNames, QueryTypes, IsBindable, NotBound};

@@ -3,10 +3,8 @@
 
 ghost use Rattle.std.specs.Prelude.{◌≡◌};
 ghost use Rattle.med_value.specs.declared.cause.Cause.{Cause as AnyCause};
-ghost use Rattle.med_syntax.specs.Tree.{Name};
-ghost use Rattle.med_syntax.specs.QueryTree.{SelectTree};
-ghost use Rattle.med_catalog.specs.Objects.{Objects};
-ghost use Rattle.med_catalog.specs.DdlCauses.{phase};
+ghost use Rattle.med_syntax.specs.Prelude.{Name, SelectTree};
+ghost use Rattle.med_catalog.specs.Prelude.{Objects, phase};
 ghost use Rattle.med_binder.specs.Queries.{QueryNames, QueryTypes};
 
 /// Each cause of names or rights is of phase 3, and each cause of types of phase 4.

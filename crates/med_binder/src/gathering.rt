@@ -3,10 +3,7 @@
 
 ghost use Rattle.std.specs.Prelude.{◌≡◌, length, map, flat_map, Some, IfOk};
 ghost use Rattle.med_syntax.specs.QueryView.{entry_tree};
-ghost use Rattle.bind_names.specs.Scope.{table_shape};
-ghost use Rattle.bind_names.specs.Naming.{entry_causes};
-ghost use Rattle.bind_names.specs.Seen.{seen_entry};
-ghost use Rattle.bind_names.specs.Telling.{Means};
+ghost use Rattle.bind_names.specs.Prelude.{table_shape, entry_causes, seen_entry, Means};
 ghost use Rattle.med_catalog.specs.View.{objects};
 ghost use Rattle.med_binder.specs.Tables.{shapes, AreNamedOnce};
 ghost use Rattle.med_binder.specs.Places.{attached};

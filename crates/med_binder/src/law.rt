@@ -2,14 +2,11 @@
 //! is in view, `specs/Counted.antt` how the entries of FROM are counted, and `specs/Alike.antt` which types are compared.
 
 ghost use Rattle.std.specs.Prelude.{◌≡◌, ◌≤◌, ◌*◌, List, Some, length, sum, All};
-ghost use Rattle.med_value.specs.Causes.{phase_of};
-ghost use Rattle.med_value.specs.Limits.{column_limit, entry_limit};
+ghost use Rattle.med_value.specs.Prelude.{phase_of, column_limit, entry_limit};
 ghost use Rattle.med_value.specs.declared.cause.Cause.{Cause as AnyCause};
 ghost use Rattle.med_syntax.specs.QueryTree.{StatementTree};
-ghost use Rattle.bind_names.specs.Scope.{TableShape};
-ghost use Rattle.bind_names.specs.Naming.{NameCauses};
+ghost use Rattle.bind_names.specs.Prelude.{TableShape, NameCauses, meant};
 ghost use Rattle.bind_types.specs.Typing.{TypeCauses};
-ghost use Rattle.bind_names.specs.Meaning.{meant};
 ghost use Rattle.med_binder.specs.Alike.{FormAlike, from_kinds};
 ghost use Rattle.med_binder.specs.Counted.{AreNarrow, FormCounts, core_numbers, core_widths};
 ghost use Rattle.med_query.specs.Form.{CoreForm};

@@ -1,10 +1,7 @@
 //! The names of a query.
 #![tactic(auto, using(bind_names::proofs::Causes::tells_left, bind_names::proofs::Causes::tells_right, bind_names::proofs::Causes::tells_memory, bind_names::proofs::Causes::tells_one, bind_names::proofs::Causes::none_of_two))]
 
-ghost use Rattle.bind_names.specs.Meaning.{limit_of};
-ghost use Rattle.bind_names.specs.Naming.{core_alias_causes, entry_causes};
-ghost use Rattle.bind_names.specs.Scope.{query_entries, table_shape};
-ghost use Rattle.bind_names.specs.Telling.{Passes};
+ghost use Rattle.bind_names.specs.Prelude.{limit_of, core_alias_causes, entry_causes, query_entries, table_shape, Passes};
 ghost use Rattle.med_binder.specs.Looking.{LooksUp};
 ghost use Rattle.med_syntax.specs.QueryView.{core_tree, select_tree, limit_tree};
 ghost use Rattle.std.specs.Prelude.{◌≡◌, [], map, flat_map, option_map, unwrap_or};

@@ -1,9 +1,6 @@
 //! Queries over tables that are known, bound.
 
-ghost use Rattle.bind_names.specs.Meaning.{meant_in};
-ghost use Rattle.bind_names.specs.Naming.{entry_causes, select_name_causes};
-ghost use Rattle.bind_names.specs.Scope.{query_entries, table_shape};
-ghost use Rattle.bind_names.specs.Telling.{Passes};
+ghost use Rattle.bind_names.specs.Prelude.{meant_in, entry_causes, select_name_causes, query_entries, table_shape, Passes};
 ghost use Rattle.bind_types.specs.Typing.{answer_types, select_type_causes};
 ghost use Rattle.med_binder.specs.Binding.{bound_kinds};
 ghost use Rattle.med_binder.specs.Looking.{IsLookedUp};

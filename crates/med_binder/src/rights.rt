@@ -2,12 +2,9 @@
 #![tactic(auto, using(bind_names::proofs::Causes::tells_memory, bind_names::proofs::Causes::tells_one))]
 
 ghost use Rattle.std.specs.Prelude.{map, flat_map};
-ghost use Rattle.med_syntax.specs.QueryTree.{EntryTree};
-ghost use Rattle.med_syntax.specs.QueryView.{entry_tree};
-ghost use Rattle.bind_names.specs.Seen.{seen_entry};
-ghost use Rattle.bind_names.specs.Telling.{Passes};
-ghost use Rattle.med_catalog.specs.Objects.{table_named};
-ghost use Rattle.med_catalog.specs.View.{objects};
+ghost use Rattle.med_syntax.specs.Prelude.{EntryTree, entry_tree};
+ghost use Rattle.bind_names.specs.Prelude.{seen_entry, Passes};
+ghost use Rattle.med_catalog.specs.Prelude.{table_named, objects};
 ghost use Rattle.med_binder.specs.Barred.{table_causes, reading_causes};
 
 use med_catalog::Catalog;

@@ -1,18 +1,14 @@
 //! Statements to bound queries over views of tables.
 
-ghost use Rattle.bind_names.specs.Meaning.{meant_in, meant};
-ghost use Rattle.bind_names.specs.Naming.{select_name_causes, statement_name_causes};
-ghost use Rattle.bind_names.specs.Scope.{table_shape};
+ghost use Rattle.bind_names.specs.Prelude.{meant_in, meant, select_name_causes, statement_name_causes, table_shape};
 ghost use Rattle.bind_types.specs.Typing.{answer_types, select_type_causes, statement_type_causes};
 ghost use Rattle.med_binder.specs.Alike.{from_kinds, FormAlike};
 ghost use Rattle.med_binder.specs.Binding.{IsBound, IsEntryOf, bound_kinds, kinds_of_answer, BindCauses, BindTells};
 ghost use Rattle.med_binder.specs.Counted.{bound_widths, FormCounts};
 ghost use Rattle.med_binder.specs.Turns.{Binds};
 ghost use Rattle.med_binder.specs.Within.{widths_of, FormWithin};
-ghost use Rattle.med_query.specs.Form.{form_of};
-ghost use Rattle.med_query.specs.Select.{are_safe_cores};
-ghost use Rattle.med_syntax.specs.QueryTree.{select};
-ghost use Rattle.med_syntax.specs.QueryView.{select_tree, statement_tree};
+ghost use Rattle.med_query.specs.Prelude.{form_of, are_safe_cores};
+ghost use Rattle.med_syntax.specs.Prelude.{select, select_tree, statement_tree};
 ghost use Rattle.med_value.specs.declared.cause.Cause.{Cause};
 ghost use Rattle.std.specs.Prelude.{◌≡◌, ◌⊎◌, map, true, All, IfOk, OnOk, IfErr};
 

@@ -5,13 +5,8 @@ use Rattle.std.specs.List.{IsDistinct}
 use Rattle.std.proofs.lemmas.List.{length-map, length-append}
 use Rattle.std.proofs.lemmas.List.Elements.{All-nil}
 use Rattle.med_value.specs.Datum.{Tuple}
-use Rattle.fdw_api.specs.Kinds.{Change}
-use Rattle.tri_expr.specs.Tree.{Tree}
-use Rattle.tri_expr.specs.Meaning.{OnClass, means}
-use Rattle.fdw_api.specs.Scan.{GivenRow, IsComing, plain_spec}
-use Rattle.fdw_api.specs.State.{Nature, BoxTable, Ledger, BoxState, is_honest, table_of, rows_of}
-use Rattle.fdw_api.specs.Calls.{LeavesAll, faults_after}
-use Rattle.fdw_api.specs.Writes.{CanModify}
+use Rattle.fdw_api.specs.Prelude.{Change, GivenRow, IsComing, plain_spec, Nature, BoxTable, Ledger, BoxState, is_honest, table_of, rows_of, LeavesAll, faults_after, CanModify}
+use Rattle.tri_expr.specs.Prelude.{Tree, OnClass, means}
 use Rattle.fdw_api.specs.declared.interface.Fault.{Fault}
 use Rattle.fdw_api.specs.declared.interface.Fault.TheVariants.{NoMemory, Source, Refused}
 use Rattle.med_exec.specs.Reading.{pulled_after}

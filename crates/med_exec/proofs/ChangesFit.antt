@@ -11,12 +11,9 @@ use Rattle.std.proofs.lemmas.Map.Keys.{IsDistinct-head, IsDistinct-tail}
 use Rattle.std.proofs.lemmas.Map.Made.{All-is_member}
 use Rattle.med_value.specs.Datum.{Tuple}
 use Rattle.med_value.specs.declared.value.ColType.{ColType}
-use Rattle.tri_expr.specs.Outcome.{value_of}
-use Rattle.tri_expr.specs.Meaning.{means}
+use Rattle.tri_expr.specs.Prelude.{value_of, means}
 use Rattle.med_query.specs.Query.{keeps}
-use Rattle.fdw_api.specs.Kinds.{Change, Inserts, Updates, Deletes}
-use Rattle.fdw_api.specs.Scan.{GivenRow, TableRow, IsComing, plain_spec, row_fits, given_row}
-use Rattle.fdw_api.specs.Writes.{row_of_change_fits, id_is_there, is_first, names_id, has_id}
+use Rattle.fdw_api.specs.Prelude.{Change, Inserts, Updates, Deletes, GivenRow, TableRow, IsComing, plain_spec, row_fits, given_row, row_of_change_fits, id_is_there, is_first, names_id, has_id}
 use Rattle.med_write.specs.Form.{WriteForm, insert_form, update_form, delete_form}
 use Rattle.med_write.specs.Writing.{new_cells, row_made, rows_given, changes_of}
 use Rattle.med_exec.specs.WriteReading.{are_typed}

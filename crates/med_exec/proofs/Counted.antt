@@ -1,8 +1,7 @@
 -- What is counted where no scan is begun.
 use Rattle.std.proofs.Common.{ℕ, List, Option, ap, sym, ◌∙◌, add-zero}
 use Rattle.fdw_api.specs.State.{BoxState}
-use Rattle.scan_loops.specs.Counting.{next_in, BeginsNone, none_in}
-use Rattle.scan_loops.specs.Scans.{or_none}
+use Rattle.scan_loops.specs.Prelude.{next_in, BeginsNone, none_in, or_none}
 use Rattle.med_exec.specs.Counting.{BeginsScans}
 
 -- the loops count the next numbers of all slots

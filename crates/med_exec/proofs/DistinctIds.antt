@@ -11,6 +11,7 @@ use Rattle.std.proofs.lemmas.List.Sorted.{IsPermutation-map}
 use Rattle.std.proofs.lemmas.Map.Keys.{IsDistinct-head, IsDistinct-tail, IsDistinct-cons, IsDistinct-IsPermutation}
 use Rattle.std.proofs.lemmas.Map.Made.{IsDistinct-from_count, distinct_count-from_IsDistinct}
 use Rattle.std.proofs.lemmas.Map.Views.{btree_set_len-from_list}
+use Rattle.std.proofs.lemmas.Bool.{and_parts}
 use Rattle.fdw_api.specs.Scan.{TableRow, GivenRow, Spec, IsComing, plain_spec, given_row}
 use Rattle.fdw_api.proofs.Unpromised.{all_first}
 use Rattle.med_write.specs.Form.{WriteForm, insert_form, update_form, delete_form}
@@ -40,10 +41,6 @@ tells_distinct id rows n size f e xs is =
       λ h. d.1 (e ∙ as_many (map id rows) n f (subst (IsDistinct nat_eq) (sym is) h) ∙ length-map rows id),
     )
 
-both_true : (a b : Bool) → (a && b) ≡ true → (a ≡ true) × (b ≡ true)
-both_true true b e = (refl, e)
-both_true false b e = absurd cc
-
 apart : (m n : ℕ) → m < n → nat_eq m n ≡ false
 apart m n l = split (nat_eq m n) refl
   where
@@ -59,7 +56,7 @@ none_at_all = tt
 above_all : (last x : ℕ) (xs : List ℕ) → last < x → rise_from x xs ≡ true → AllByRecursion (λ y. nat_eq last y ≡ false) xs
 above_all last x [] l e = tt
 above_all last x (y ∷ ys) l e =
-    let parts = both_true (nat_lt x y) (rise_from y ys) e in
+    let parts = and_parts (nat_lt x y) (rise_from y ys) e in
     let next : x < y = (Decides-ltb x y).0 parts.0 in
     let far : last < y = omega (arith, l, next) in
     (apart last y far, above_all last y ys far parts.1)
@@ -67,7 +64,7 @@ above_all last x (y ∷ ys) l e =
 rise_distinct : (last : ℕ) (xs : List ℕ) → rise_from last xs ≡ true → IsDistinct nat_eq (last ∷ xs)
 rise_distinct last [] e = IsDistinct-cons nat_eq last [] tt none_at_all
 rise_distinct last (x ∷ xs) e =
-    let parts = both_true (nat_lt last x) (rise_from x xs) e in
+    let parts = and_parts (nat_lt last x) (rise_from x xs) e in
     let next : last < x = (Decides-ltb last x).0 parts.0 in
     IsDistinct-cons nat_eq last (x ∷ xs) (apart last x next, above_all last x xs next parts.1) (rise_distinct x xs parts.1)
 

@@ -6,7 +6,7 @@ use Rattle.std.specs.FinMap.{gets, nat_cmp-IsAntisymmetric}
 use Rattle.std.specs.Cmp.{nat_cmp_total}
 use Rattle.std.proofs.lemmas.Bool.Decides.{eqb_tells}
 use Rattle.std.proofs.lemmas.Bool.{false≢true}
-use Rattle.std.proofs.lemmas.Option.{slice_get-get_or}
+use Rattle.std.proofs.lemmas.Option.{slice_get-get_or, same_Some}
 use Rattle.fdw_api.specs.State.{BoxTable, Scan, BoxState, scan_of}
 use Rattle.med_exec.specs.declared.running.Run.{Run}
 use Rattle.med_exec.specs.Slots.{BoxAt}
@@ -29,9 +29,6 @@ cases {P} q n a b = split (eqb_tells q n)
     split (inl s) = a s.1
     split (inr s) = b s.1
 
-some_inj : {X : Type 0} (x y : X) → Some x ≡ Some y → x ≡ y
-some_inj x y e = cc
-
 none_some : {X : Type 0} (x : X) (o : Option X) → o ≡ None → o ≡ Some x → ⊥
 none_some x o a b = absurd cc
 
@@ -50,7 +47,7 @@ IsIn q (n ∷ ns) = (q ≡ n) ⊎ IsIn q ns
 
 at_in : (q : ℕ) (ns : List ℕ) (k : ℕ) → slice_get ns k ≡ Some q → IsIn q ns
 at_in q [] k at = absurd (none_some q None refl at)
-at_in q (n ∷ ns) zero at = inl (sym (some_inj n q at))
+at_in q (n ∷ ns) zero at = inl (sym (same_Some n q at))
 at_in q (n ∷ ns) (suc k) at = inr (at_in q ns k at)
 
 pub to_in : (q : ℕ) (ns : List ℕ) → Contains ns q → IsIn q ns

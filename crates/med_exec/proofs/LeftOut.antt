@@ -4,21 +4,14 @@ use Rattle.std.specs.List.{list_any}
 use Rattle.std.proofs.lemmas.Bool.Decides.{Decides-ltb}
 use Rattle.std.proofs.lemmas.List.{append-nil, map-append}
 use Rattle.std.proofs.lemmas.List.Elements.{All-nil, All-map, All-weaker, All-from_get_or}
-use Rattle.med_value.specs.Datum.{Datum, NoValue, Whole, Chars, Logic, Tuple, cell}
-use Rattle.med_value.specs.Order.{is_missing, compares_true}
+use Rattle.std.proofs.lemmas.Option.{same_Some}
+use Rattle.med_value.specs.Prelude.{Datum, NoValue, Whole, Chars, Logic, Tuple, cell, is_missing, compares_true}
 use Rattle.med_value.specs.declared.value.ColType.{ColType}
 use Rattle.med_value.specs.declared.order.Comparison.{Comparison}
 use Rattle.med_value.specs.declared.operators.Status.TheVariants as statuses
-use Rattle.tri_expr.specs.Tree.{Tree, column, literal, compare, asks}
-use Rattle.tri_expr.specs.TreeParts.{bare}
-use Rattle.tri_expr.specs.Outcome.{Outcome, Is, Fails, compared, tested}
-use Rattle.tri_expr.specs.Meaning.{OnClass, tree_meaning, means}
-use Rattle.tri_expr.specs.Laws.{HasValue}
-use Rattle.tri_expr.specs.Verdict.{is_met, is_refusal}
+use Rattle.tri_expr.specs.Prelude.{Tree, column, literal, compare, asks, bare, Outcome, Is, Fails, compared, tested, OnClass, tree_meaning, means, HasValue, is_met, is_refusal}
 use Rattle.med_query.specs.Query.{on_row}
-use Rattle.fdw_api.specs.Scan.{RestrictionForm, Spec, TableRow, GivenRow, IsComing, plain_spec, given_row, meets, meets_all, pick, test_fits, params_fit, spec_of, spec_by}
-use Rattle.fdw_api.specs.State.{BoxState}
-use Rattle.fdw_api.specs.Calls.{Allows, CanBegin}
+use Rattle.fdw_api.specs.Prelude.{RestrictionForm, Spec, TableRow, GivenRow, IsComing, plain_spec, given_row, meets, meets_all, pick, test_fits, params_fit, spec_of, spec_by, BoxState, Allows, CanBegin}
 use Rattle.fdw_api.specs.declared.scan.Agreement.{Agreement}
 use Rattle.fdw_api.specs.declared.scan.ScanSpec.{ScanSpec}
 use Rattle.fdw_api.proofs.Unpromised.{any_order, all_first}
@@ -56,11 +49,8 @@ compared_value op (Logic p) (Whole n) = tt
 compared_value op (Logic p) (Chars t) = tt
 compared_value op (Logic p) (Logic b) = tt
 
-some_inj : {A : Type 0} (a b : A) → Some a ≡ Some b → a ≡ b
-some_inj a b q = cc
-
 inside : (b : Bool) (t o : TestOf) → cond b (Some t) None ≡ Some o → t ≡ o
-inside true t o e = some_inj t o e
+inside true t o e = same_Some t o e
 inside false t o e = absurd cc
 
 none_below : (b : ℕ) → nat_lt b 0 ≡ false

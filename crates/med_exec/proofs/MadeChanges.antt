@@ -1,18 +1,13 @@
 -- A write that is begun, staged and ended.
 use Rattle.std.proofs.Common.{◌≡◌, ℕ, true, false, List, [], Option, Some, None, IsSome, refl, ap, sym, ◌∙◌, subst, arith}
 use Rattle.std.specs.FinMap as finmap
-use Rattle.fdw_api.specs.Kinds.{Change}
-use Rattle.fdw_api.specs.State.{BoxTable, Staging, Ledger, BoxState, is_honest}
-use Rattle.fdw_api.specs.Calls.{LeavesAll, NoScan, faults_after}
-use Rattle.fdw_api.specs.Writes.{CanModify, Opens, CanClose, Closes, RefusesClose, CloseCause, Written}
+use Rattle.std.proofs.lemmas.Option.{same_Some}
+use Rattle.fdw_api.specs.Prelude.{Change, BoxTable, Staging, Ledger, BoxState, is_honest, LeavesAll, NoScan, faults_after, CanModify, Opens, CanClose, Closes, RefusesClose, CloseCause, Written}
 use Rattle.fdw_api.specs.declared.interface.Fault.{Fault}
 use Rattle.fdw_api.specs.declared.interface.Fault.TheVariants.{NoMemory, Source, Refused}
 use Rattle.med_exec.proofs.Served.{honest_on}
 use Rattle.med_exec.specs.Staging.{AreStageable, IsStaged, BreaksStaging, ChangesCause, MakesChanges, MakesNone}
 use Rattle.med_exec.proofs.StagedChanges.{staging_of, leaves_twice}
-
-some_inj : {A : Type 0} (a b : A) → Some a ≡ Some b → a ≡ b
-some_inj a b q = cc
 
 -- ---- begun
 
@@ -99,7 +94,7 @@ none_staged l e = ap (λ (x : Option Staging). record l { staged = x }) (sym e)
 
 pub kept : (old s new : BoxState) (t : ℕ) (cs : List Change) → CanModify old t → IsStaged old t cs s → Closes s true new → MakesChanges old t cs new
 kept old s new t cs can h g =
-    let same : g.staging ≡ staging_of t cs = some_inj _ _ (sym g.is_staged ∙ ap (λ z. z.staged) h.ledger) in
+    let same : g.staging ≡ staging_of t cs = same_Some _ _ (sym g.is_staged ∙ ap (λ z. z.staged) h.ledger) in
     record {
       nature = g.nature ∙ h.nature;
       ledger = g.ledger ∙ ap (λ (l : Ledger). record l { staged = None }) h.ledger ∙ none_staged old.ledger can.not_staged;
@@ -120,7 +115,7 @@ close_cause (Refused c) old s t cs h k = (
 
 pub not_kept : (fault : Fault) (old s new : BoxState) (t : ℕ) (cs : List Change) → CanModify old t → IsStaged old t cs s → RefusesClose s true fault new → MakesNone old t cs fault new
 not_kept fault old s new t cs can h g =
-    let same : g.staging ≡ staging_of t cs = some_inj _ _ (sym g.is_staged ∙ ap (λ z. z.staged) h.ledger) in
+    let same : g.staging ≡ staging_of t cs = same_Some _ _ (sym g.is_staged ∙ ap (λ z. z.staged) h.ledger) in
     record {
       nature = g.nature ∙ h.nature;
       next = old.ledger.next;

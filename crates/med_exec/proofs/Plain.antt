@@ -3,8 +3,7 @@ use Rattle.std.proofs.Common.{◌≡◌, ◌∙◌, ◌<◌, ◌+◌, ◌*◌, �
 use Rattle.std.specs.List.{list_any}
 use Rattle.std.proofs.lemmas.List.{length-map}
 use Rattle.tri_expr.specs.declared.expr.Expr.{Expr}
-use Rattle.tri_expr.specs.Tree.{Tree, tree}
-use Rattle.tri_expr.specs.TreeParts.{is_risky, is_risky_tree}
+use Rattle.tri_expr.specs.Prelude.{Tree, tree, is_risky, is_risky_tree}
 use Rattle.med_query.specs.Form.{CoreForm, GroupForm, core_form, form_of, group_form, group_trees, is_risky_core, is_risky_form}
 use Rattle.med_planner.specs.Plain.{IsPlainForm}
 use Rattle.med_query.specs.declared.select.Grouping.{Grouping}
@@ -12,9 +11,8 @@ use Rattle.med_query.specs.declared.select.SelectCore.{SelectCore}
 use Rattle.med_query.specs.declared.select.Select.{Select}
 use Rattle.pushdown.specs.Joins.{Each}
 use Rattle.fdw_api.specs.State.{BoxState}
-use Rattle.scan_loops.specs.Counting.{one_in, scans_in}
+use Rattle.scan_loops.specs.Prelude.{one_in, scans_in, all_safe, IsStreamedCore, IsStreamed}
 use Rattle.scan_loops.specs.declared.levels.LoopLevel.{LoopLevel}
-use Rattle.scan_loops.specs.Streamed.{all_safe, IsStreamedCore, IsStreamed}
 use Rattle.loop_runs.specs.Gathering.{levels_in, all_levels}
 use Rattle.loop_runs.specs.Running.{plan_levels, IsUnordered}
 use Rattle.loop_runs.specs.declared.running.LoopPlan.{LoopPlan}

@@ -5,34 +5,21 @@ use Rattle.std.proofs.lemmas.List.Elements.{All-head, All-tail}
 use Rattle.std.proofs.lemmas.Option.{slice_get-get_or}
 use Rattle.med_value.specs.declared.value.ColType.{ColType}
 use Rattle.tri_expr.specs.Tree.{Tree}
-use Rattle.med_query.specs.Query.{Tables, joined}
-use Rattle.med_query.specs.Form.{JoinForm, cross_form, inner_form, left_form, ChainForm, CoreForm, chain_form, core_form}
-use Rattle.med_query.specs.Select.{core_of, is_safe_from, are_safe_cores}
+use Rattle.med_query.specs.Prelude.{Tables, joined, JoinForm, cross_form, inner_form, left_form, ChainForm, CoreForm, chain_form, core_form, core_of, is_safe_from, are_safe_cores}
 use Rattle.med_query.specs.declared.select.JoinChain.{JoinChain}
 use Rattle.med_query.specs.declared.select.Select.{Select}
 use Rattle.med_query.specs.declared.select.SelectCore.{SelectCore}
-use Rattle.med_binder.specs.Alike.{CoreAlike}
-use Rattle.med_binder.specs.Counted.{joined_number, chain_numbers, CoreCounts}
-use Rattle.med_binder.specs.Within.{CoreWithin}
+use Rattle.med_binder.specs.Prelude.{CoreAlike, joined_number, chain_numbers, CoreCounts, CoreWithin, entry_place}
 use Rattle.med_binder.specs.declared.bound.BoundEntry.{BoundEntry}
 use Rattle.med_binder.specs.declared.bound.BoundQuery.{BoundQuery}
-use Rattle.fdw_api.specs.State.{BoxTable, BoxState, table_of}
-use Rattle.fdw_api.specs.Wishes.{WishForm}
+use Rattle.fdw_api.specs.Prelude.{BoxTable, BoxState, table_of, WishForm}
 use Rattle.fdw_api.specs.declared.wishes.Agreement2.{Agreement2}
-use Rattle.med_binder.specs.Place.{entry_place}
 use Rattle.med_planner.specs.Planned.{entry_rows}
 use Rattle.pushdown.specs.Joins.{Each}
 use Rattle.pushdown.specs.Loops.{Level}
-use Rattle.scan_loops.specs.Levels.{levels_of}
-use Rattle.scan_loops.specs.Running.{HonestFor}
-use Rattle.scan_loops.specs.Scans.{or_none, bound_in, bound_at, rows_at}
-use Rattle.scan_loops.specs.Serving.{HonestAt}
+use Rattle.scan_loops.specs.Prelude.{levels_of, HonestFor, or_none, bound_in, bound_at, rows_at, HonestAt, HasTable, CanStart, ComesInOrder, IsLoopPlan, whole}
 use Rattle.med_exec.specs.Running.{HonestOver}
-use Rattle.scan_loops.specs.Slots.{HasTable}
-use Rattle.scan_loops.specs.Starting.{CanStart}
 use Rattle.scan_loops.specs.declared.levels.LoopLevel.{LoopLevel}
-use Rattle.scan_loops.specs.Ordered.{ComesInOrder}
-use Rattle.scan_loops.specs.Planned.{IsLoopPlan, whole}
 use Rattle.scan_loops.proofs.Seen.{agree_over}
 use Rattle.med_planner.specs.Flat.{Part, join_part, end_after, chain_parts, from_parts}
 use Rattle.med_planner.specs.Places.{further}

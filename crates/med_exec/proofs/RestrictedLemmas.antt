@@ -5,6 +5,7 @@ use Rattle.std.specs.List.Sorted.{IsPermutation}
 use Rattle.std.proofs.lemmas.Bool.Decides.{eqb_tells}
 use Rattle.std.proofs.lemmas.List.Sorted.{IsPermutation-filter_both, IsPermutation-append_left, IsPermutation-trans}
 use Rattle.std.proofs.lemmas.List.Elements.{filter_passes, All-weaker, All-append, All-head, All-tail}
+use Rattle.std.proofs.lemmas.Bool.{and_parts, not-true}
 use Rattle.med_value.specs.Datum.{Tuple, cell}
 use Rattle.fdw_api.specs.Scan.{Spec, RestrictionForm, GivenRow, TableRow, IsComing, checks, pick, meets, meets_all, meets_exact, given_row, shown_cells}
 use Rattle.fdw_api.specs.declared.scan.Agree.{Agree}
@@ -12,14 +13,6 @@ use Rattle.fdw_api.specs.declared.scan.Agree.TheVariants.{Ignored, Hint, Exact}
 use Rattle.med_write.specs.Making.{cells_of}
 use Rattle.fdw_api.proofs.Unpromised.{all_first}
 use Rattle.med_exec.specs.Restricted.{ShowsAll, place_in, place_shown, all_wanted, meets_shown, meets_rest, checked, AreRestricted}
-
-both : (a b : Bool) → (a && b) ≡ true → (a ≡ true) × (b ≡ true)
-both true b e = (refl, e)
-both false b e = absurd cc
-
-not_true : (b : Bool) → not b ≡ true → b ≡ false
-not_true true e = absurd cc
-not_true false e = refl
 
 -- a wanted cell is where its column stands among the wanted ones
 picked : (whole : Tuple) (ws : List ℕ) (c : ℕ) → list_any (λ w. nat_eq w c) ws ≡ true → cell (pick ws whole) (place_in ws c) ≡ cell whole c
@@ -42,10 +35,10 @@ seen_cell spec whole c h = go spec.narrow h
     go false h = refl
 
 meets_same : (spec : Spec) (params whole : Tuple) (f : RestrictionForm) (fs : List RestrictionForm) → ShowsAll spec (f ∷ fs) → meets_shown spec params (shown_cells spec whole) f ≡ meets params whole f
-meets_same spec params whole f fs seen = ap (checks params f.test) (seen_cell spec whole f.column (λ n. (both (list_any (λ w. nat_eq w f.column) spec.wanted) (all_wanted spec.wanted fs) (seen n)).0))
+meets_same spec params whole f fs seen = ap (checks params f.test) (seen_cell spec whole f.column (λ n. (and_parts (list_any (λ w. nat_eq w f.column) spec.wanted) (all_wanted spec.wanted fs) (seen n)).0))
 
 seen_rest : (spec : Spec) (f : RestrictionForm) (fs : List RestrictionForm) → ShowsAll spec (f ∷ fs) → ShowsAll spec fs
-seen_rest spec f fs seen n = (both (list_any (λ w. nat_eq w f.column) spec.wanted) (all_wanted spec.wanted fs) (seen n)).1
+seen_rest spec f fs seen n = (and_parts (list_any (λ w. nat_eq w f.column) spec.wanted) (all_wanted spec.wanted fs) (seen n)).1
 
 both_same : (a b c d : Bool) → a ≡ b → c ≡ d → (a && c) ≡ (b && d)
 both_same a b c d e f = rw (e, f) refl
@@ -59,7 +52,7 @@ rest_decides spec params whole (f ∷ fs) [] seen e = both_same _ _ _ _ (meets_s
     none [] = refl
     none (g ∷ gs) = refl
 rest_decides spec params whole (f ∷ fs) (Exact ∷ answers) seen e =
-    let w = both (meets params whole f) (meets_exact fs answers params whole) e in
+    let w = and_parts (meets params whole f) (meets_exact fs answers params whole) e in
     rest_decides spec params whole fs answers (seen_rest spec f fs seen) w.1 ∙ sym (ap (λ b. b && meets_all fs params whole) w.0)
 rest_decides spec params whole (f ∷ fs) (Ignored ∷ answers) seen e = both_same _ _ _ _ (meets_same spec params whole f fs seen) (rest_decides spec params whole fs answers (seen_rest spec f fs seen) e)
 rest_decides spec params whole (f ∷ fs) (Hint ∷ answers) seen e = both_same _ _ _ _ (meets_same spec params whole f fs seen) (rest_decides spec params whole fs answers (seen_rest spec f fs seen) e)
@@ -98,7 +91,7 @@ checked_again rows spec params coming seen all c =
             (subst (λ l. IsPermutation (c.taken ++ c.left_out) l) (append_assoc passed failed c.left_out)
             (IsPermutation-append_left c.left_out c.taken (passed ++ failed) (IsPermutation-filter_both (all_of spec params) (λ r. not (all_of spec params r)) (λ r. refl) c.taken)));
         passing = filter_passes (all_of spec params) c.taken;
-        failing = All-append (λ r. all_of spec params r ≡ false) failed c.left_out (All-weaker (λ r. not (all_of spec params r) ≡ true) (λ r. all_of spec params r ≡ false) (λ r e. not_true (all_of spec params r) e) failed (filter_passes (λ r. not (all_of spec params r)) c.taken)) c.failing;
+        failing = All-append (λ r. all_of spec params r ≡ false) failed c.left_out (All-weaker (λ r. not (all_of spec params r) ≡ true) (λ r. all_of spec params r ≡ false) (λ r e. not-true (all_of spec params r) e) failed (filter_passes (λ r. not (all_of spec params r)) c.taken)) c.failing;
       };
       passed = ap (λ l. filter (checked spec params) (cells_of l)) (c.is ∙ ap (map (given_row spec)) (all_first spec.limit all c.taken)) ∙ left_over spec params c.taken seen c.exact;
     }

@@ -5,11 +5,10 @@ use Rattle.std.specs.FinMap as finmap
 use Rattle.std.specs.FinMap.{gets}
 use Rattle.std.proofs.lemmas.List.{append-nil, map-append}
 use Rattle.std.proofs.lemmas.List.Folds.{list_all-append}
+use Rattle.std.proofs.lemmas.Option.{same_Some}
 use Rattle.med_value.specs.Datum.{Tuple}
 use Rattle.med_value.specs.declared.value.ColType.{ColType}
-use Rattle.fdw_api.specs.Scan.{GivenRow, Spec, IsComing, row_fits, cells_fit, shown_fits}
-use Rattle.fdw_api.specs.State.{BoxTable, Scan, BoxState, is_honest, scan_of, rows_of}
-use Rattle.fdw_api.specs.Calls.{IsOpen, GivesRow, GivesNone, Begins, Ends, new_scan}
+use Rattle.fdw_api.specs.Prelude.{GivenRow, Spec, IsComing, row_fits, cells_fit, shown_fits, BoxTable, Scan, BoxState, is_honest, scan_of, rows_of, IsOpen, GivesRow, GivesNone, Begins, Ends, new_scan}
 use Rattle.fdw_api.specs.declared.interface.Fault.{Fault}
 use Rattle.fdw_api.specs.declared.interface.Fault.TheVariants.{NoMemory}
 use Rattle.tri_expr.specs.Tree.{Tree}
@@ -29,9 +28,6 @@ pub record HasRows (n : ℕ) (old : BoxState) (given : List GivenRow) (s : BoxSt
 get_same : {X : Type 0} (m : finmap.FinMap nat_cmp X) (k : ℕ) (v : X) → finmap.get (finmap.insert m k v) k ≡ Some v
 get_same m k v = grind (gets, rules)
 
-some_inj : {A : Type 0} (a b : A) → Some a ≡ Some b → a ≡ b
-some_inj a b q = cc
-
 pub start_rows : (n : ℕ) (s : BoxState) → IsOpen s n → HasRows n s [] s
 start_rows n s o = record { scanned = start n s o; coming = λ h. refl; shaped = λ kinds r. (r, refl) }
 
@@ -44,7 +40,7 @@ row_typed n s new row g kinds r =
 shape_more : (n : ℕ) (s new : BoxState) (row : GivenRow) (g : GivesRow s n row new) (kinds : List ColType) → ReadsWhole s n kinds → ReadsWhole new n kinds
 shape_more n s new row g kinds r = λ scan at.
     let now : scan_of new n ≡ Some (record g.scan { left = g.left }) = ap (λ z. finmap.get z.live n) g.ledger ∙ get_same s.ledger.live n _ in
-    let same : record g.scan { left = g.left } ≡ scan = some_inj _ _ (sym now ∙ at) in
+    let same : record g.scan { left = g.left } ≡ scan = same_Some _ _ (sym now ∙ at) in
     let q : (g.scan.kinds ≡ kinds) × (g.scan.spec.narrow ≡ false) = r g.scan g.at in
     (sym (ap (λ (z : Scan). z.kinds) same) ∙ q.0, sym (ap (λ (z : Scan). z.spec.narrow) same) ∙ q.1)
 
@@ -72,7 +68,7 @@ module _ (t n width : ℕ) (conditions : List Tree) (spec : Spec) (offers : Offe
   begun_whole : ReadsWhole begun n b.bound.kinds
   begun_whole = λ scan at.
       let now : scan_of begun n ≡ Some (new_scan t b.bound.kinds spec [] b.left) = ap (λ z. finmap.get z.live n) b.ledger ∙ get_same old.ledger.live n _ in
-      let same : new_scan t b.bound.kinds spec [] b.left ≡ scan = some_inj _ _ (sym now ∙ at) in
+      let same : new_scan t b.bound.kinds spec [] b.left ≡ scan = same_Some _ _ (sym now ∙ at) in
       (sym (ap (λ (z : Scan). z.kinds) same), sym (ap (λ (z : Scan). z.spec.narrow) same) ∙ offers.whole)
 
   reads_table : (last new : BoxState) (given : List GivenRow) → GivesRows n b.bound.kinds begun given last → Ends last n new → ReadsTable conditions old t given new
@@ -82,7 +78,7 @@ module _ (t n width : ℕ) (conditions : List Tree) (spec : Spec) (offers : Offe
     offers = offers;
     runs = reads t n spec old begun last new (cells_of given) b g.all e;
     coming = λ h. subst (IsComing (rows_of old t) spec []) (g.coming (honest_on old begun b.nature h)) (b.coming h);
-    typed = λ bound is. subst (λ (z : BoxTable). are_typed z.kinds given ≡ true) (some_inj b.bound bound (sym b.is ∙ is)) g.typed;
+    typed = λ bound is. subst (λ (z : BoxTable). are_typed z.kinds given ≡ true) (same_Some b.bound bound (sym b.is ∙ is)) g.typed;
   }
 
   pub ok_table : {T : Type 0} (rows : T → List GivenRow) (last new : BoxState) (r : Result T Fault) → IfOk r (λ x. (kinds : List ColType) → ReadsWhole begun n kinds → GivesRows n kinds begun (rows x) last) → Ends last n new → IfOk r (λ x. ReadsTable conditions old t (rows x) new)

@@ -4,14 +4,11 @@ use Rattle.std.specs.List.{range_with_len, filter}
 use Rattle.std.proofs.lemmas.List.{length-map}
 use Rattle.med_value.specs.Datum.{Tuple}
 use Rattle.tri_expr.specs.Meaning.{means}
-use Rattle.med_query.specs.Query.{Tables, Chain, Table, joined_chain, joined_chains, joined, pairs, matched, keeps}
-use Rattle.med_query.specs.Form.{JoinForm, cross_form, inner_form, left_form, ChainForm, CoreForm, core_form, join_by, joins_by, chain_by}
-use Rattle.med_query.specs.Select.{core_of}
+use Rattle.med_query.specs.Prelude.{Tables, Chain, Table, joined_chain, joined_chains, joined, pairs, matched, keeps, JoinForm, cross_form, inner_form, left_form, ChainForm, CoreForm, core_form, join_by, joins_by, chain_by, core_of}
 use Rattle.med_query.specs.declared.select.SelectCore.{SelectCore}
-use Rattle.med_binder.specs.Counted.{joined_number, chain_numbers, core_numbers, CoreCounts}
+use Rattle.med_binder.specs.Prelude.{joined_number, chain_numbers, core_numbers, CoreCounts, entry_place}
 use Rattle.med_binder.specs.declared.bound.BoundEntry.{BoundEntry}
 use Rattle.fdw_api.specs.State.{BoxState}
-use Rattle.med_binder.specs.Place.{entry_place}
 use Rattle.med_planner.specs.Planned.{rows_shown, entry_rows}
 use Rattle.pushdown.specs.Joins.{Each}
 use Rattle.scan_loops.specs.Scans.{or_none, rows_in, rows_at}

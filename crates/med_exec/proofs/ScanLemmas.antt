@@ -6,10 +6,9 @@ use Rattle.std.specs.FinMap.{gets, nat_cmp-IsAntisymmetric}
 use Rattle.std.specs.Cmp.{nat_cmp_total}
 use Rattle.std.proofs.lemmas.List.{append-nil, length-append}
 use Rattle.std.proofs.lemmas.Bool.Decides.{eqb_tells}
+use Rattle.std.proofs.lemmas.Option.{same_Some}
 use Rattle.med_value.specs.Datum.{Tuple}
-use Rattle.fdw_api.specs.Scan.{GivenRow, Spec}
-use Rattle.fdw_api.specs.State.{Scan, Ledger, BoxState, is_honest, scan_of}
-use Rattle.fdw_api.specs.Calls.{LeavesOthers, LeavesAll, bumped, faults_after, not_refused, IsOpen, GivesRow, GivesNone, Breaks, BeginCause, Begins, Ends, RefusesBegin}
+use Rattle.fdw_api.specs.Prelude.{GivenRow, Spec, Scan, Ledger, BoxState, is_honest, scan_of, LeavesOthers, LeavesAll, bumped, faults_after, not_refused, IsOpen, GivesRow, GivesNone, Breaks, BeginCause, Begins, Ends, RefusesBegin}
 use Rattle.fdw_api.specs.declared.interface.Fault.{Fault}
 use Rattle.fdw_api.specs.declared.interface.Fault.TheVariants.{NoMemory, Source, Refused}
 use Rattle.med_exec.specs.Reading.{pulled_after, Keeps, GivesAll, StopsBy}
@@ -49,9 +48,6 @@ count_on : (given : List Tuple) (row : Tuple) (pulled : ℕ) → pulled_after (l
 count_on given row pulled =
     let n : length (given ++ row ∷ []) ≡ suc (length given) = length-append given (row ∷ []) ∙ add-one (length given) in
     ap (λ (k : ℕ). pulled_after k pulled) n
-
-some_inj : {A : Type 0} (a b : A) → Some a ≡ Some b → a ≡ b
-some_inj a b q = cc
 
 -- leaving other tickets alone goes on
 leaves_on : (n : ℕ) (a b c : BoxState) → ((q : ℕ) → q ≢ n → scan_of b q ≡ scan_of a q) → LeavesOthers n a b → LeavesOthers n b c → LeavesOthers n a c
@@ -99,7 +95,7 @@ pub more : (n : ℕ) (old s new : BoxState) (given : List Tuple) (row : GivenRow
 more n old s new given row h g = record {
   scan = record g.scan { left = g.left };
   now = row_now n s new row g;
-  whole = ap (λ (z : Scan). z.broken) (some_inj _ _ (sym g.at ∙ h.now)) ∙ h.whole;
+  whole = ap (λ (z : Scan). z.broken) (same_Some _ _ (sym g.at ∙ h.now)) ∙ h.whole;
   keeps = keeps_on n old s new h.keeps (row_keeps n s new row g);
   pulled = ap (λ z. z.pulled) g.ledger ∙ ap bumped h.pulled ∙ sym (count_on given row.cells old.ledger.pulled);
   faults = ap (λ z. z.faults) g.ledger ∙ h.faults;

@@ -3,17 +3,12 @@ use Rattle.std.proofs.Common.{◌≡◌, ℕ, Bool, true, false, ◌&&◌, List,
 use Rattle.std.specs.FinMap as finmap
 use Rattle.std.specs.List.{list_all}
 use Rattle.std.proofs.lemmas.List.{append-nil, map-append}
-use Rattle.fdw_api.specs.Kinds.{Change}
-use Rattle.fdw_api.specs.State.{Nature, Staging, Ledger, BoxState, is_honest, rows_of}
-use Rattle.fdw_api.specs.Calls.{LeavesAll, faults_after}
-use Rattle.fdw_api.specs.Writes.{CanChange, Stages, ChangeCause, RefusesChange, row_of_change_fits, id_is_there, is_first}
+use Rattle.std.proofs.lemmas.Option.{same_Some}
+use Rattle.fdw_api.specs.Prelude.{Change, Nature, Staging, Ledger, BoxState, is_honest, rows_of, LeavesAll, faults_after, CanChange, Stages, ChangeCause, RefusesChange, row_of_change_fits, id_is_there, is_first}
 use Rattle.fdw_api.specs.declared.interface.Fault.{Fault}
 use Rattle.fdw_api.specs.declared.interface.Fault.TheVariants.{NoMemory, Source, Refused}
 use Rattle.med_exec.proofs.Served.{honest_on}
 use Rattle.med_exec.specs.Staging.{all_first, AreStageable, IsStaged, BreaksStaging, ChangesCause}
-
-some_inj : {A : Type 0} (a b : A) → Some a ≡ Some b → a ≡ b
-some_inj a b q = cc
 
 pub both_first : (a b : Bool) → (a && b) ≡ true → a ≡ true
 both_first true b e = refl
@@ -62,7 +57,7 @@ can_change old s t done c after a h = record {
 
 pub staged_more : (old s new : BoxState) (t : ℕ) (done : List Change) (c : Change) → IsStaged old t done s → Stages s c new → IsStaged old t (done ++ c ∷ []) new
 staged_more old s new t done c h g =
-    let same : g.staging ≡ staging_of t done = some_inj _ _ (sym g.is_staged ∙ ap (λ z. z.staged) h.ledger) in
+    let same : g.staging ≡ staging_of t done = same_Some _ _ (sym g.is_staged ∙ ap (λ z. z.staged) h.ledger) in
     record {
       nature = g.nature ∙ h.nature;
       ledger = g.ledger ∙ ap (λ (l : Ledger). record l { staged = Some (record g.staging { changes = g.staging.changes ++ c ∷ [] }) }) h.ledger ∙ ap (λ (z : Staging). record old.ledger { staged = Some (record z { changes = z.changes ++ c ∷ [] }) }) same;
@@ -82,7 +77,7 @@ cause_broken (Refused cause) old s t done c after h k = (
 
 pub staging_breaks : (fault : Fault) (old s new : BoxState) (t : ℕ) (done : List Change) (c : Change) (after : List Change) → IsStaged old t done s → RefusesChange s c fault new → BreaksStaging old t (done ++ c ∷ after) fault new
 staging_breaks fault old s new t done c after h g =
-    let same : g.staging ≡ staging_of t done = some_inj _ _ (sym g.is_staged ∙ ap (λ z. z.staged) h.ledger) in
+    let same : g.staging ≡ staging_of t done = same_Some _ _ (sym g.is_staged ∙ ap (λ z. z.staged) h.ledger) in
     record {
       nature = g.nature ∙ h.nature;
       staging = record g.staging { broken = true };

@@ -1,20 +1,16 @@
 -- What the runs of loops say, in the words of med_exec and med_planner.
 use Rattle.std.proofs.Common.{◌≡◌, ◌∙◌, ◌+◌, ℕ, inr, List, map, Option, Result, Ok, Err, IfOk, IfErr, ap, sym, subst}
 use Rattle.med_value.specs.Datum.{Tuple}
-use Rattle.med_query.specs.Query.{Query, Tables, IsAnswer}
-use Rattle.med_query.specs.Select.{query_of}
+use Rattle.med_query.specs.Prelude.{Query, Tables, IsAnswer, query_of, IsShownCause}
 use Rattle.med_query.specs.declared.select.Select.{Select}
 use Rattle.med_binder.specs.declared.bound.BoundQuery.{BoundQuery}
 use Rattle.fdw_api.specs.State.{BoxState}
 use Rattle.fdw_api.specs.declared.interface.Fault.{Fault}
 use Rattle.med_binder.specs.Place.{entry_place}
-use Rattle.med_query.specs.Causes.{IsShownCause}
 use Rattle.med_planner.specs.Planned.{entry_rows}
 use Rattle.med_exec.specs.Running.{Stops as RunStops, lacks_memory, source_fails, numbers_end, query_shows as query_tells}
-use Rattle.scan_loops.specs.Pulling.{PullsAtMost, many_in}
-use Rattle.scan_loops.specs.Serving.{wants_memory, box_breaks}
+use Rattle.scan_loops.specs.Prelude.{PullsAtMost, many_in, wants_memory, box_breaks, ComesInOrder}
 use Rattle.scan_loops.specs.Starting.{box_stops, numbers_end as numbers_out}
-use Rattle.scan_loops.specs.Ordered.{ComesInOrder}
 use Rattle.loop_runs.specs.Gathering.{levels_in}
 use Rattle.loop_runs.specs.Ordering.{PullsAsAsked}
 use Rattle.loop_runs.specs.Running.{IsPlanOver, Answers, Stops, loops_stop, query_shows}

@@ -6,13 +6,11 @@ use Rattle.std.proofs.lemmas.List.{append-nil}
 use Rattle.std.proofs.lemmas.List.Elements.{All-nil, All-cons, All-head, All-tail, All-append, All-weaker}
 use Rattle.std.proofs.lemmas.List.Sorted.{All-permutation, IsPermutation-sym}
 use Rattle.std.proofs.lemmas.Map.Keys.{IsDistinct-head, IsDistinct-tail}
+use Rattle.std.proofs.lemmas.Option.{same_Some}
 use Rattle.med_value.specs.Datum.{Tuple}
-use Rattle.tri_expr.specs.Outcome.{Outcome, value_of}
-use Rattle.tri_expr.specs.Meaning.{means}
+use Rattle.tri_expr.specs.Prelude.{Outcome, value_of, means}
 use Rattle.med_query.specs.Query.{keeps}
-use Rattle.fdw_api.specs.Kinds.{Held, held, Change, Inserts, Updates, Deletes}
-use Rattle.fdw_api.specs.Scan.{GivenRow, TableRow, IsComing, plain_spec, given_row}
-use Rattle.fdw_api.specs.State.{BoxTable, BoxState, is_honest, table_of, rows_of}
+use Rattle.fdw_api.specs.Prelude.{Held, held, Change, Inserts, Updates, Deletes, GivenRow, TableRow, IsComing, plain_spec, given_row, BoxTable, BoxState, is_honest, table_of, rows_of}
 use Rattle.fdw_api.specs.Writes.{row_after, inserted, rows_after as rows_changed}
 use Rattle.med_write.specs.declared.write.WrittenColumn.{WrittenColumn}
 use Rattle.med_write.specs.Form.{WriteForm, insert_form, update_form, delete_form}
@@ -166,13 +164,10 @@ as_written line (delete_form conditions) answer rows read d a =
     ∙ changed line change (λ r. []) (λ r id more now. refl) p rows read d a
     ∙ rows_left (keeps (means [] conditions)) rows
 
-some_inj : {A : Type 0} (a b : A) → Some a ≡ Some b → a ≡ b
-some_inj a b q = cc
-
 pub rows_written : (columns : List WrittenColumn) (w : WriteForm) (answer : List Tuple) (old new : BoxState) (t count : ℕ) → is_honest old → IsDistinct nat_eq (map (λ r. r.id) (rows_of old t)) → Writes columns w answer old t count new → (b : BoxTable) → table_of old t ≡ Some b → map held (rows_of new t) ≡ b.arrangement.arranged (rows_after b.line w answer (map held (rows_of old t)))
 rows_written columns w answer old new t count honest d h b is =
     let k = h.content honest in
-    let same : k.bound ≡ b = some_inj k.bound b (sym k.is ∙ is) in
+    let same : k.bound ≡ b = same_Some k.bound b (sym k.is ∙ is) in
     k.rows
     ∙ ap (λ cs. k.bound.arrangement.arranged (rows_changed k.bound.line (rows_of old t) cs)) h.are_changes.are
     ∙ ap k.bound.arrangement.arranged (as_written k.bound.line w answer (rows_of old t) h.read d (h.are_read honest))

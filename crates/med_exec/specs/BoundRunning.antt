@@ -3,20 +3,13 @@ use Rattle.std.specs.Prelude.{◌≡◌, ℕ, true, List, map, Option}
 use Rattle.med_value.specs.Datum.{Tuple}
 use Rattle.med_value.specs.declared.cause.Cause.{Cause}
 use Rattle.med_value.specs.declared.value.ColType.{ColType}
-use Rattle.med_query.specs.Query.{Query, IsAnswer}
-use Rattle.med_query.specs.Form.{form_of}
-use Rattle.med_query.specs.Select.{are_safe_cores}
-use Rattle.med_binder.specs.Alike.{FormAlike}
-use Rattle.med_binder.specs.Counted.{bound_widths, FormCounts}
-use Rattle.med_binder.specs.Within.{FormWithin}
+use Rattle.med_query.specs.Prelude.{Query, IsAnswer, form_of, are_safe_cores, IsShownCause}
+use Rattle.med_binder.specs.Prelude.{FormAlike, bound_widths, FormCounts, FormWithin, Place, entry_place}
 use Rattle.med_binder.specs.declared.bound.BoundQuery.{BoundQuery}
 use Rattle.fdw_api.specs.State.{BoxState}
-use Rattle.med_binder.specs.Place.{Place, entry_place}
-use Rattle.med_query.specs.Causes.{IsShownCause}
 use Rattle.med_planner.specs.Planned.{entry_rows}
 use Rattle.med_exec.specs.Running.{HonestOver}
-use Rattle.scan_loops.specs.Scans.{bound_at, rows_at}
-use Rattle.scan_loops.specs.Counting.{scans_in}
+use Rattle.scan_loops.specs.Prelude.{bound_at, rows_at, scans_in}
 use Rattle.med_planner.specs.Plans.{tables_by}
 use Rattle.med_planner.specs.Premises.{AreOfKinds, RowsAreWide}
 use Rattle.loop_runs.specs.Gathering.{levels_in}

@@ -1,7 +1,6 @@
 -- Of which tables the scans are that a run holds.
 use Rattle.std.specs.Prelude.{◌≡◌, ℕ, List, Option, Some, Contains}
-use Rattle.fdw_api.specs.State.{Scan, BoxState, scan_of}
-use Rattle.fdw_api.specs.Sound.{IsTableOf}
+use Rattle.fdw_api.specs.Prelude.{Scan, BoxState, scan_of, IsTableOf}
 use Rattle.med_binder.specs.Place.{Place}
 use Rattle.med_exec.specs.declared.running.Run.{Run}
 use Rattle.med_exec.specs.Slots.{BoxAt}

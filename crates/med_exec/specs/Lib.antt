@@ -18,3 +18,4 @@ pub mod WriteReading
 pub mod Staging
 pub mod Writing
 pub mod Fitting
+pub mod Prelude

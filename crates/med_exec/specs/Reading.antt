@@ -1,8 +1,7 @@
 -- One scan, from its begin to its end.
 use Rattle.std.specs.Prelude.{◌≡◌, ◌≢◌, ℕ, zero, suc, List, length, Some}
 use Rattle.med_value.specs.Datum.{Tuple}
-use Rattle.fdw_api.specs.State.{Scan, BoxState, is_honest, scan_of}
-use Rattle.fdw_api.specs.Calls.{bumped, LeavesOthers, faults_after, not_refused}
+use Rattle.fdw_api.specs.Prelude.{Scan, BoxState, is_honest, scan_of, bumped, LeavesOthers, faults_after, not_refused}
 use Rattle.fdw_api.specs.declared.interface.Fault.{Fault}
 use Rattle.med_write.specs.Making.{cells_of}
 

@@ -1,9 +1,7 @@
 -- Reading what a scan gives: BeginForeignScan, IterateForeignScan until no row is left or one fails, EndForeignScan.
 use Rattle.std.specs.Prelude.{◌≡◌, ◌+◌, ◌-◌, ◌^◌, ◌<◌, ◌≤◌, ◌⊎◌, ℕ, false, List, [], length}
 use Rattle.med_value.specs.Datum.{Tuple}
-use Rattle.fdw_api.specs.Scan.{Spec, GivenRow, IsComing}
-use Rattle.fdw_api.specs.State.{BoxState, is_honest, rows_of}
-use Rattle.fdw_api.specs.Calls.{LeavesAll, faults_after, BeginCause}
+use Rattle.fdw_api.specs.Prelude.{Spec, GivenRow, IsComing, BoxState, is_honest, rows_of, LeavesAll, faults_after, BeginCause}
 use Rattle.fdw_api.specs.declared.interface.Fault.{Fault}
 use Rattle.med_exec.specs.Reading.{pulled_after}
 use Rattle.med_write.specs.Making.{cells_of}

@@ -2,10 +2,7 @@
 use Rattle.std.specs.Prelude.{◌≡◌, ◌≤◌, ◌-◌, ◌^◌, ℕ, Bool, true, false, ◌&&◌, List, [], ◌∷◌, ◌++◌, Option, Some, Contains}
 use Rattle.std.specs.List.{list_all}
 use Rattle.med_value.specs.Causes.{phase_of}
-use Rattle.fdw_api.specs.Kinds.{Entry, Change, is_of_run}
-use Rattle.fdw_api.specs.State.{BoxTable, Staging, BoxState, is_honest, table_of, rows_of}
-use Rattle.fdw_api.specs.Calls.{LeavesAll, Picks, faults_after}
-use Rattle.fdw_api.specs.Writes.{Written, row_of_change_fits, id_is_there, is_first}
+use Rattle.fdw_api.specs.Prelude.{Entry, Change, is_of_run, BoxTable, Staging, BoxState, is_honest, table_of, rows_of, LeavesAll, Picks, faults_after, Written, row_of_change_fits, id_is_there, is_first}
 use Rattle.fdw_api.specs.declared.interface.Fault.{Fault}
 use Rattle.fdw_api.specs.declared.interface.Fault.TheVariants.{NoMemory, Source, Refused}
 

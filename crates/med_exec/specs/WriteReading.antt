@@ -3,8 +3,7 @@ use Rattle.std.specs.Prelude.{◌≡◌, ℕ, Bool, true, false, List, [], Optio
 use Rattle.std.specs.List.{list_all}
 use Rattle.med_value.specs.declared.value.ColType.{ColType}
 use Rattle.tri_expr.specs.Tree.{Tree}
-use Rattle.fdw_api.specs.Scan.{Spec, GivenRow, IsComing, row_fits}
-use Rattle.fdw_api.specs.State.{BoxTable, Scan, BoxState, is_honest, table_of, scan_of, rows_of}
+use Rattle.fdw_api.specs.Prelude.{Spec, GivenRow, IsComing, row_fits, BoxTable, Scan, BoxState, is_honest, table_of, scan_of, rows_of}
 use Rattle.pushdown.specs.Offers.{tests_of, forms_from}
 use Rattle.med_write.specs.Making.{cells_of}
 use Rattle.med_exec.specs.Reading.{GivesAll}

@@ -1,17 +1,12 @@
 -- A write to a table of a box: the rows are read that WHERE may keep, the changes are staged, and they are made together or not at all.
 use Rattle.std.specs.Prelude.{◌≡◌, ◌+◌, ◌-◌, ◌^◌, ◌≤◌, ℕ, true, false, List, [], map, length, Option, Some, Contains, nat_eq}
 use Rattle.std.specs.List.{list_all, IsDistinct}
-use Rattle.med_value.specs.Causes.{phase_of}
-use Rattle.med_value.specs.Datum.{Tuple}
+use Rattle.med_value.specs.Prelude.{phase_of, Tuple}
 use Rattle.med_value.specs.declared.cause.Cause.{Cause}
 use Rattle.med_value.specs.declared.cause.Cause.TheVariants.{LimitExceeded, NotNull as NullGiven}
 use Rattle.med_value.specs.declared.value.ColType.{ColType}
 use Rattle.tri_expr.specs.Outcome.{value_of}
-use Rattle.fdw_api.specs.Kinds.{Entry, Change, is_of_run}
-use Rattle.fdw_api.specs.Scan.{GivenRow, TableRow, IsComing, plain_spec, row_fits}
-use Rattle.fdw_api.specs.State.{BoxTable, BoxState, is_honest, table_of, rows_of}
-use Rattle.fdw_api.specs.Calls.{LeavesAll, Picks, faults_after}
-use Rattle.fdw_api.specs.Writes.{CanModify, Written}
+use Rattle.fdw_api.specs.Prelude.{Entry, Change, is_of_run, GivenRow, TableRow, IsComing, plain_spec, row_fits, BoxTable, BoxState, is_honest, table_of, rows_of, LeavesAll, Picks, faults_after, CanModify, Written}
 use Rattle.fdw_api.specs.declared.interface.Fault.{Fault}
 use Rattle.fdw_api.specs.declared.interface.Fault.TheVariants.{NoMemory, Source, Refused}
 use Rattle.med_exec.specs.Reading.{pulled_after}

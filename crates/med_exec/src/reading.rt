@@ -2,13 +2,11 @@
 ghost use Rattle.std.specs.Prelude.{◌≡◌, [], List, Some, IsSome, IfOk, IfErr, map};
 ghost use Rattle.med_value.specs.declared.value.ColType.{ColType as Kind};
 ghost use Rattle.tri_expr.specs.Tree.{tree};
-ghost use Rattle.fdw_api.specs.Scan.{spec_of};
+ghost use Rattle.fdw_api.specs.Prelude.{spec_of, CanBegin, IsOpen, row_of, table_of};
 ghost use Rattle.fdw_api.specs.declared.interface.Fault.TheVariants.{NoMemory};
-ghost use Rattle.fdw_api.specs.Calls.{CanBegin, IsOpen, row_of};
 ghost use Rattle.med_exec.specs.Reading.{StopsBy};
 ghost use Rattle.med_exec.specs.Scanning.{FailsScan};
 ghost use Rattle.med_exec.specs.WriteReading.{OffersWhere, ReadsWhole, GivesRows, ReadsTable};
-ghost use Rattle.fdw_api.specs.State.{table_of};
 
 use fdw_api::interface::{Fault, SourceRow, Ticket};
 use fdw_api::scan::{Agreement, ScanSpec};

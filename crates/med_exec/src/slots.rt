@@ -1,7 +1,6 @@
 //! Calls of the box in a slot, over any kind of box.
 ghost use Rattle.std.specs.Prelude.{◌≡◌, map, IfOk, IfErr};
-ghost use Rattle.fdw_api.specs.Calls.{CanBind, Binds, RefusesBind, CanUnbind, Unbinds};
-ghost use Rattle.fdw_api.specs.Kinds.{column_of, option_form};
+ghost use Rattle.fdw_api.specs.Prelude.{CanBind, Binds, RefusesBind, CanUnbind, Unbinds, column_of, option_form};
 ghost use Rattle.med_exec.specs.Slots.{states, BoxAt, ChangesAt, counts_at};
 
 use fdw_api::interface::{Counts, Fault, TableOption};

@@ -2,9 +2,7 @@
 ghost use Rattle.std.specs.Prelude.{◌≡◌, ℕ, List, Some, map, nat_eq};
 ghost use Rattle.std.specs.List.{IsDistinct};
 ghost use Rattle.med_value.specs.Datum.{Tuple};
-ghost use Rattle.fdw_api.specs.Kinds.{held};
-ghost use Rattle.fdw_api.specs.Scan.{GivenRow, TableRow};
-ghost use Rattle.fdw_api.specs.State.{BoxTable, BoxState, is_honest, table_of, rows_of};
+ghost use Rattle.fdw_api.specs.Prelude.{held, GivenRow, TableRow, BoxTable, BoxState, is_honest, table_of, rows_of};
 ghost use Rattle.fdw_api.specs.Writes.{rows_after as rows_changed};
 ghost use Rattle.med_write.specs.declared.write.WrittenColumn.{WrittenColumn as Target};
 ghost use Rattle.med_write.specs.Form.{WriteForm};

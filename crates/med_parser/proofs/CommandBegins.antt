@@ -6,17 +6,11 @@ use Rattle.med_lexer.specs.declared.Mark.{Mark}
 use Rattle.med_lexer.specs.declared.Mark.TheVariants as marks
 use Rattle.med_lexer.specs.declared.Token.{Token}
 use Rattle.med_lexer.specs.View.{shape_of}
-use Rattle.med_syntax.specs.View.{shapes_of}
+use Rattle.med_syntax.specs.Prelude.{shapes_of, Name, Terminal, mark_terminal, word_terminal, terminal_of, IsTerminal, AreTerminals, StatementTree, select, IsWord, AreWords, is_free_keyword, SpellsCore, Spells, IsStatement, GivenTree, values, rows_of, insert, update, delete}
+use Rattle.med_syntax.specs.Words.{is_reserved}
 use Rattle.med_lexer.specs.Lexemes.{Shape, word, quoted, literal, number, mark}
 use Rattle.med_syntax.specs.declared.expr.Joint.TheVariants.{Or, And}
-use Rattle.med_syntax.specs.Tree.{Name}
-use Rattle.med_syntax.specs.Terminal.{Terminal, mark_terminal, word_terminal, terminal_of, IsTerminal, AreTerminals}
 use Rattle.med_syntax.specs.Terminal as t
-use Rattle.med_syntax.specs.Words.{is_reserved}
-use Rattle.med_syntax.specs.QueryTree.{StatementTree, select}
-use Rattle.med_syntax.specs.QueryTerminals.{IsWord, AreWords, is_free_keyword}
-use Rattle.med_syntax.specs.QueryGrammar.{SpellsCore, Spells, IsStatement}
-use Rattle.med_syntax.specs.WriteTree.{GivenTree, values, rows_of, insert, update, delete}
 use Rattle.write_parser.specs.WriteGrammar.{SpellsInsert, SpellsUpdate, SpellsDelete, IsLineOf, IsInsert}
 use Rattle.write_parser.proofs.CursorRead as cursor
 use Rattle.ddl_parser.proofs.DdlComplete as ddl

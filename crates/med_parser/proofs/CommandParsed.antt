@@ -7,36 +7,23 @@ use Rattle.med_value.specs.declared.cause.Cause.TheVariants as causes
 use Rattle.med_lexer.specs.declared.Token.{Token}
 use Rattle.med_lexer.specs.Lexemes.{Shape, Lexeme, Lexes}
 use Rattle.med_lexer.specs.View.{views}
-use Rattle.med_syntax.specs.Shapes.{shapes, IsLongName}
-use Rattle.med_syntax.specs.View.{shapes_of, LexesOnly, cause_of}
+use Rattle.med_syntax.specs.Prelude.{shapes, IsLongName, shapes_of, LexesOnly, cause_of, AreReadable, words_at, ReadsAs, cause_of_read, StatementTree, statement_height, IsStatement, HasStatement, statement_in_range, DdlTree, ddl_tree, WriteTree, write_tree, CursorTree, cursor_tree, statement_tree}
 use Rattle.med_syntax.specs.declared.fault.ParseFault.{ParseFault}
 use Rattle.med_syntax.specs.declared.fault.ParseFault.TheVariants as parse_faults
 use Rattle.med_syntax.specs.declared.statement.Statement.{Statement}
 use Rattle.med_syntax.specs.declared.refusal.ReadFault.{ReadFault}
 use Rattle.med_syntax.specs.declared.refusal.ReadFault.TheVariants as faults
 use Rattle.med_syntax.specs.declared.refusal.Refusal.TheVariants.{Syntax, TooHigh}
-use Rattle.med_syntax.specs.ExprTerminals.{AreReadable}
 use Rattle.med_syntax.specs.declared.query_symbols.Place.TheVariants.{Before}
-use Rattle.med_syntax.specs.QueryTerminals.{words_at}
-use Rattle.med_syntax.specs.ExprAnswers.{ReadsAs, cause_of_read}
-use Rattle.med_syntax.specs.QueryTree.{StatementTree, statement_height}
-use Rattle.med_syntax.specs.QueryGrammar.{IsStatement, HasStatement}
-use Rattle.med_syntax.specs.QueryCauses.{statement_in_range}
 use Rattle.sql_print.specs.QueryPrinting.{printed_statement}
 use Rattle.ddl_parser.specs.DdlPrinting.{printed_ddl}
 use Rattle.med_parser.specs.CommandPrinting.{printed_command}
-use Rattle.med_syntax.specs.DdlTree.{DdlTree}
-use Rattle.med_syntax.specs.DdlView.{ddl_tree}
 use Rattle.med_parser.specs.CommandTree.{CommandTree, on_data, on_rows, on_cursors, on_objects, command_height, command_tree}
-use Rattle.med_syntax.specs.WriteTree.{WriteTree}
-use Rattle.med_syntax.specs.WriteView.{write_tree}
 use Rattle.med_syntax.specs.declared.write.WriteStatement.{WriteStatement}
 use Rattle.write_parser.specs.WriteGrammar.{IsWrite, HasWrite}
 use Rattle.write_parser.specs.WriteCauses.{write_in_range, Refuses}
 use Rattle.write_parser.proofs.WriteRead.{one_write}
 use Rattle.sql_print.specs.WritePrinting.{printed_write}
-use Rattle.med_syntax.specs.CursorTree.{CursorTree}
-use Rattle.med_syntax.specs.CursorView.{cursor_tree}
 use Rattle.med_syntax.specs.declared.cursor.CursorStatement.{CursorStatement}
 use Rattle.write_parser.specs.CursorGrammar.{IsCursor, HasCursor}
 use Rattle.write_parser.specs.CursorCauses.{cursor_in_range}
@@ -54,7 +41,6 @@ use Rattle.med_parser.specs.CommandGrammar.{IsCommand, HasCommand}
 use Rattle.med_parser.proofs.CommandBegins.{one_kind}
 use Rattle.med_parser.specs.CommandCauses.{command_in_range, is_fetch_zero_command, TokenCauses, SyntaxCauses}
 use Rattle.query_reader.specs.QueryReading.{bounded_line}
-use Rattle.med_syntax.specs.QueryView.{statement_tree}
 use Rattle.med_syntax.proofs.TokenShapes.{OneList, shapes_are}
 use Rattle.med_syntax.proofs.TokenNumbers.{small_at}
 use Rattle.query_reader.proofs.QueryComplete.{one_line}

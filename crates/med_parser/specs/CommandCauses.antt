@@ -4,10 +4,8 @@ use Rattle.med_value.specs.declared.cause.Cause.{Cause}
 use Rattle.med_value.specs.declared.cause.Cause.TheVariants as causes
 use Rattle.med_value.specs.Limits.{height_limit}
 use Rattle.med_lexer.specs.Lexemes.{Shape, Lexeme, Lexes}
-use Rattle.med_syntax.specs.Shapes.{shapes, IsLongName, deepens}
-use Rattle.med_syntax.specs.ExprGrammar.{IsHuge}
+use Rattle.med_syntax.specs.Prelude.{shapes, IsLongName, deepens, IsHuge, statement_in_range}
 use Rattle.med_parser.specs.CommandTree.{CommandTree, on_data, on_rows, on_cursors, on_objects, command_height}
-use Rattle.med_syntax.specs.QueryCauses.{statement_in_range}
 use Rattle.write_parser.specs.WriteCauses.{write_in_range}
 use Rattle.write_parser.specs.CursorCauses.{cursor_in_range, is_fetch_zero}
 use Rattle.med_parser.specs.CommandGrammar.{IsCommand, HasCommand}

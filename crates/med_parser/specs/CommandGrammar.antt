@@ -2,9 +2,8 @@
 -- catalogue.
 use Rattle.std.specs.Prelude.{ℕ, List}
 use Rattle.med_lexer.specs.Lexemes.{Shape, Lexeme, Lexes}
-use Rattle.med_syntax.specs.Shapes.{shapes}
+use Rattle.med_syntax.specs.Prelude.{shapes, IsStatement}
 use Rattle.med_parser.specs.CommandTree.{CommandTree, on_data, on_rows, on_cursors, on_objects}
-use Rattle.med_syntax.specs.QueryGrammar.{IsStatement}
 use Rattle.write_parser.specs.WriteGrammar.{IsWrite}
 use Rattle.write_parser.specs.CursorGrammar.{IsCursor}
 use Rattle.ddl_parser.specs.DdlGrammar.{IsDdl}

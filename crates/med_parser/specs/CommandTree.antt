@@ -1,14 +1,7 @@
 -- What a line may ask, as a tree: a statement on data, one that writes rows, one on a cursor, or one on the objects of the catalogue
 -- (SQL:2016, <SQL data statement>, <SQL data change statement>, <SQL schema statement>; 14 "Data manipulation").
 use Rattle.std.specs.Prelude.{ℕ}
-use Rattle.med_syntax.specs.QueryTree.{StatementTree, statement_height}
-use Rattle.med_syntax.specs.QueryView.{statement_tree}
-use Rattle.med_syntax.specs.DdlTree.{DdlTree}
-use Rattle.med_syntax.specs.DdlView.{ddl_tree}
-use Rattle.med_syntax.specs.WriteTree.{WriteTree, write_height}
-use Rattle.med_syntax.specs.WriteView.{write_tree}
-use Rattle.med_syntax.specs.CursorTree.{CursorTree, cursor_height}
-use Rattle.med_syntax.specs.CursorView.{cursor_tree}
+use Rattle.med_syntax.specs.Prelude.{StatementTree, statement_height, statement_tree, DdlTree, ddl_tree, WriteTree, write_height, write_tree, CursorTree, cursor_height, cursor_tree}
 use Rattle.med_parser.specs.declared.command.Command.{Command}
 use Rattle.med_parser.specs.declared.command.Command.TheVariants as c
 

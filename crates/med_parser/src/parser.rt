@@ -1,8 +1,6 @@
 //! Text to commands.
 
-ghost use Rattle.med_syntax.specs.ExprAnswers.{cause_of_read};
-ghost use Rattle.med_syntax.specs.ExprTerminals.{AreReadable};
-ghost use Rattle.med_syntax.specs.View.{shapes_of};
+ghost use Rattle.med_syntax.specs.Prelude.{cause_of_read, AreReadable, shapes_of};
 ghost use Rattle.med_syntax.specs.declared.refusal.ReadFault.TheVariants as faults;
 ghost use Rattle.med_lexer.specs.Printing.{AreShapes};
 ghost use Rattle.med_parser.specs.CommandCauses.{SyntaxCauses, TokenCauses};

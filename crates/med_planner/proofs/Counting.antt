@@ -6,8 +6,7 @@ use Rattle.std.proofs.lemmas.List.Elements.{All-head, All-tail}
 use Rattle.std.proofs.lemmas.Option.{get_or_from_slice_get}
 use Rattle.med_query.specs.Form.{JoinForm, cross_form, inner_form, left_form, ChainForm, CoreForm}
 use Rattle.med_binder.specs.declared.bound.BoundEntry.{BoundEntry}
-use Rattle.med_binder.specs.Counted.{joined_number, chain_numbers, core_numbers, core_widths, SaysWidth, CoreCounts}
-use Rattle.med_binder.specs.Within.{width_between}
+use Rattle.med_binder.specs.Prelude.{joined_number, chain_numbers, core_numbers, core_widths, SaysWidth, CoreCounts, width_between}
 use Rattle.med_planner.specs.Places.{further}
 use Rattle.med_planner.specs.Flat.{Part, width_of, inner_part, join_part, end_after, chain_parts, from_parts}
 use Rattle.med_planner.specs.Premises.{widths_in, HasPlaces}

@@ -4,16 +4,13 @@ use Rattle.std.specs.List.{filter, list_all, list_any, range_with_len}
 use Rattle.std.specs.Option.{is_some as some_there}
 use Rattle.std.proofs.lemmas.Bool.Decides.{eqb_tells}
 use Rattle.tri_expr.specs.Tree.{Tree, column, parenthesised, tree}
-use Rattle.med_query.specs.Query.{Direction}
-use Rattle.med_query.specs.Form.{ChainForm, CoreForm, direction_of, core_form}
+use Rattle.med_query.specs.Prelude.{Direction, ChainForm, CoreForm, direction_of, core_form}
 use Rattle.med_query.specs.declared.select.SelectCore.{SelectCore}
 use Rattle.med_query.specs.declared.select.Grouping.{Grouping}
 use Rattle.med_query.specs.declared.select.Select.{Select}
 use Rattle.med_binder.specs.declared.bound.BoundEntry.{BoundEntry}
 use Rattle.med_binder.specs.Within.{IsWithin}
-use Rattle.fdw_api.specs.Scan.{KeyForm}
-use Rattle.fdw_api.specs.Wishes.{WishForm, wish_form, spec2_of, all_exact, has_no_order, is_fair}
-use Rattle.fdw_api.specs.State.{BoxState}
+use Rattle.fdw_api.specs.Prelude.{KeyForm, WishForm, wish_form, spec2_of, all_exact, has_no_order, is_fair, BoxState}
 use Rattle.fdw_api.specs.declared.scan.Agree.{Agree}
 use Rattle.fdw_api.specs.declared.scan.Agree.TheVariants.{Ignored, Hint, Exact}
 use Rattle.fdw_api.specs.declared.wishes.Agreement2.{Agreement2}
@@ -22,8 +19,7 @@ use Rattle.pushdown.specs.Columns.{columns_in}
 use Rattle.pushdown.specs.Tests.{TestOf}
 use Rattle.pushdown.specs.Offers.{next_by, tests_of, forms_from, again_by}
 use Rattle.scan_loops.specs.declared.levels.LoopLevel.{LoopLevel}
-use Rattle.scan_loops.specs.Ordered.{key_column, with_key, order_of, IsShownCore, IsEnough, ComesInOrder}
-use Rattle.scan_loops.specs.Streamed.{all_safe}
+use Rattle.scan_loops.specs.Prelude.{key_column, with_key, order_of, IsShownCore, IsEnough, ComesInOrder, all_safe}
 use Rattle.med_planner.specs.Places.{further}
 use Rattle.med_planner.specs.Flat.{Part, end_after, from_parts}
 use Rattle.med_planner.specs.Offered.{OfferForm, decided, wanted_of, offer_of, offers_from, core_conditions, core_reads, IsLevelOf, AreLevels}

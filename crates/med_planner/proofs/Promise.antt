@@ -3,9 +3,7 @@ use Rattle.std.proofs.Common.{◌<◌, ◌^◌, ℕ, sym, subst, inl, inr}
 use Rattle.std.specs.List.{Any}
 use Rattle.std.proofs.lemmas.List.Sorted.{length_permutation}
 use Rattle.med_value.specs.declared.cause.Cause.{Cause}
-use Rattle.med_query.specs.Laws.{IsSteady, AnswersIgnoreOrder}
-use Rattle.med_query.specs.Query.{Query, Tables, SameRows, kept}
-use Rattle.med_query.specs.Causes.{IsTooLarge, IsShownCause}
+use Rattle.med_query.specs.Prelude.{IsSteady, AnswersIgnoreOrder, Query, Tables, SameRows, kept, IsTooLarge, IsShownCause}
 
 abbrev pub AnyOrder : Type 0
 AnyOrder = (q : Query) (db other : Tables) → IsSteady q → SameRows db other → AnswersIgnoreOrder q db other

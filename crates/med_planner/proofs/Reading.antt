@@ -4,9 +4,7 @@ use Rattle.std.specs.List.{list_all}
 use Rattle.med_value.specs.Datum.{Datum, NoValue, Whole, Tuple, cell}
 use Rattle.med_value.specs.declared.order.Comparison.TheVariants.{Equal as Same, AtMost, AtLeast}
 use Rattle.tri_expr.specs.Outcome.{Outcome, Is, compared, computed, negated, opposite as not_of, turned, settled, tested, strict, over, value_of}
-use Rattle.tri_expr.specs.Aggregate.{aggregated}
-use Rattle.tri_expr.specs.Meaning.{OnClass, argument, liked, has_cell, shared, tree_meaning, tree_meanings}
-use Rattle.tri_expr.specs.Tree.{Tree, column, parameter, literal, compare, compute, negate, all_of, some_of, opposite, asks, between, within, matches, parenthesised, count_rows, aggregate, Trees, none, part, trees}
+use Rattle.tri_expr.specs.Prelude.{aggregated, OnClass, argument, liked, has_cell, shared, tree_meaning, tree_meanings, Tree, column, parameter, literal, compare, compute, negate, all_of, some_of, opposite, asks, between, within, matches, parenthesised, count_rows, aggregate, Trees, none, part, trees}
 use Rattle.tri_expr.proofs.Forms.{two, three}
 use Rattle.pushdown.specs.Joins.{Each}
 use Rattle.pushdown.specs.Columns.{columns_in, columns_in_all, AgreeOn}

@@ -1,8 +1,7 @@
 -- The conjuncts that levels check may not fault.
 use Rattle.std.proofs.Common.{◌≡◌, ℕ, Bool, true, false, not, ◌||◌, cond, List, [], ◌∷◌, ◌++◌, map, refl, ap, ◌∙◌}
 use Rattle.std.specs.List.{flat_map, filter, list_all}
-use Rattle.tri_expr.specs.Tree.{Tree, Trees, column, parameter, literal, compare, compute, negate, all_of, some_of, opposite, asks, between, within, matches, parenthesised, count_rows, aggregate, none, part}
-use Rattle.tri_expr.specs.TreeParts.{adds_up, is_risky_tree, has_risky_tree}
+use Rattle.tri_expr.specs.Prelude.{Tree, Trees, column, parameter, literal, compare, compute, negate, all_of, some_of, opposite, asks, between, within, matches, parenthesised, count_rows, aggregate, none, part, adds_up, is_risky_tree, has_risky_tree}
 use Rattle.tri_expr.proofs.Forms.{two, three}
 use Rattle.med_query.specs.Form.{JoinForm, cross_form, inner_form, left_form, ChainForm, core_form, all_safe_trees, is_safe_join_form, are_safe_chains}
 use Rattle.med_binder.specs.declared.bound.BoundEntry.{BoundEntry}

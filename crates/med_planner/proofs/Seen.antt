@@ -5,11 +5,9 @@ use Rattle.std.proofs.lemmas.Bool.Decides.{eqb_tells}
 use Rattle.med_value.specs.Datum.{Tuple, cell}
 use Rattle.med_value.specs.declared.order.Comparison.{Comparison}
 use Rattle.med_value.specs.declared.operators.Status.TheVariants as statuses
-use Rattle.tri_expr.specs.Tree.{Tree, Trees, column, parameter, literal, compare, compute, negate, all_of, some_of, opposite, asks, between, within, matches, parenthesised, count_rows, aggregate, none, part}
-use Rattle.tri_expr.specs.TreeParts.{bare, bare_all}
+use Rattle.tri_expr.specs.Prelude.{Tree, Trees, column, parameter, literal, compare, compute, negate, all_of, some_of, opposite, asks, between, within, matches, parenthesised, count_rows, aggregate, none, part, bare, bare_all}
 use Rattle.tri_expr.proofs.Forms.{two}
-use Rattle.fdw_api.specs.Scan.{RestrictionForm, pick, shown_cells, checks, meets, meets_all, meets_exact}
-use Rattle.fdw_api.specs.Wishes.{spec2_of}
+use Rattle.fdw_api.specs.Prelude.{RestrictionForm, pick, shown_cells, checks, meets, meets_all, meets_exact, spec2_of}
 use Rattle.fdw_api.specs.declared.scan.Agree.{Agree}
 use Rattle.fdw_api.specs.declared.scan.Agree.TheVariants.{Ignored, Hint, Exact}
 use Rattle.pushdown.specs.Joins.{Each}

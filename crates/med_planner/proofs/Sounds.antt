@@ -7,11 +7,9 @@ use Rattle.med_value.specs.Datum.{Tuple}
 use Rattle.med_value.specs.declared.value.ColType.{ColType}
 use Rattle.med_binder.specs.Place.{Place, entry_place}
 use Rattle.med_binder.specs.declared.bound.BoundEntry.{BoundEntry}
-use Rattle.fdw_api.specs.Scan.{TableRow, has_kind, is_clean, row_fits}
-use Rattle.fdw_api.specs.State.{BoxTable, BoxState, rows_of}
+use Rattle.fdw_api.specs.Prelude.{TableRow, has_kind, is_clean, row_fits, BoxTable, BoxState, rows_of}
 use Rattle.pushdown.specs.Joins.{Each}
-use Rattle.scan_loops.specs.Scans.{or_none, bound_in, bound_at, rows_in, rows_at}
-use Rattle.scan_loops.specs.Serving.{HonestAt}
+use Rattle.scan_loops.specs.Prelude.{or_none, bound_in, bound_at, rows_in, rows_at, HonestAt}
 use Rattle.med_planner.specs.Flat.{width_of}
 use Rattle.med_planner.specs.Offered.{source_of, number_of}
 use Rattle.med_planner.specs.Premises.{AllSound, SoundIsWide}

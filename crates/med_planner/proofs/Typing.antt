@@ -5,8 +5,7 @@ use Rattle.med_value.specs.Datum.{NoValue, Tuple, cell}
 use Rattle.med_value.specs.declared.value.ColType.{ColType}
 use Rattle.med_value.specs.declared.order.Comparison.{Comparison}
 use Rattle.med_value.specs.declared.operators.Status.TheVariants as statuses
-use Rattle.tri_expr.specs.Tree.{Tree, Trees, column, parameter, literal, compare, compute, negate, all_of, some_of, opposite, asks, between, within, matches, parenthesised, count_rows, aggregate, none, part}
-use Rattle.tri_expr.specs.TreeParts.{bare, bare_all}
+use Rattle.tri_expr.specs.Prelude.{Tree, Trees, column, parameter, literal, compare, compute, negate, all_of, some_of, opposite, asks, between, within, matches, parenthesised, count_rows, aggregate, none, part, bare, bare_all}
 use Rattle.tri_expr.proofs.Forms.{two, three}
 use Rattle.fdw_api.specs.Scan.{pick, has_kind, kind_is, test_fits, params_fit}
 use Rattle.pushdown.specs.Joins.{Each}

@@ -3,13 +3,11 @@ use Rattle.std.proofs.Common.{◌≡◌, ℕ, suc, ◌+◌, ◌-◌, ◌<◌, �
 use Rattle.std.specs.List.{list_all}
 use Rattle.std.proofs.lemmas.List.{map-append}
 use Rattle.std.proofs.lemmas.List.Elements.{All-head, All-tail}
-use Rattle.tri_expr.specs.Tree.{Tree, Trees, column, parameter, literal, compare, compute, negate, all_of, some_of, opposite, asks, between, within, matches, parenthesised, count_rows, aggregate, none, part}
-use Rattle.tri_expr.specs.TreeParts.{is_risky_tree}
+use Rattle.tri_expr.specs.Prelude.{Tree, Trees, column, parameter, literal, compare, compute, negate, all_of, some_of, opposite, asks, between, within, matches, parenthesised, count_rows, aggregate, none, part, is_risky_tree}
 use Rattle.tri_expr.proofs.Forms.{two}
 use Rattle.med_query.specs.Form.{JoinForm, cross_form, inner_form, left_form, ChainForm}
 use Rattle.med_binder.specs.declared.bound.BoundEntry.{BoundEntry}
-use Rattle.med_binder.specs.Counted.{core_numbers, core_widths}
-use Rattle.med_binder.specs.Within.{IsWithin, AreWithin, width_between, JoinWithin, ChainWithin}
+use Rattle.med_binder.specs.Prelude.{core_numbers, core_widths, IsWithin, AreWithin, width_between, JoinWithin, ChainWithin}
 use Rattle.pushdown.specs.Joins.{Each}
 use Rattle.pushdown.specs.Columns.{columns_in, columns_in_all}
 use Rattle.med_planner.specs.Places.{further, moved, all_moved, shifted}

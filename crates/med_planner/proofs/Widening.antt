@@ -1,8 +1,7 @@
 -- The rows of the entries of a bound core are as wide as their entries.
 use Rattle.std.proofs.Common.{◌≡◌, ℕ, suc, ◌+◌, ◌<◌, ◌≤◌, List, [], ◌∷◌, ◌++◌, map, length, get_or, sym, subst, ◌∙◌, arith}
 use Rattle.std.proofs.lemmas.List.{length-map}
-use Rattle.med_query.specs.Query.{Tables}
-use Rattle.med_query.specs.Form.{JoinForm, cross_form, inner_form, left_form, ChainForm, core_form}
+use Rattle.med_query.specs.Prelude.{Tables, JoinForm, cross_form, inner_form, left_form, ChainForm, core_form}
 use Rattle.med_binder.specs.Counted.{core_numbers}
 use Rattle.med_binder.specs.declared.bound.BoundEntry.{BoundEntry}
 use Rattle.pushdown.specs.Joins.{Each, Entry, AllWide}

@@ -6,11 +6,9 @@ use Rattle.tri_expr.specs.Tree.{tree}
 use Rattle.med_query.specs.Form.{direction_of}
 use Rattle.med_query.specs.declared.select.SelectCore.{SelectCore}
 use Rattle.med_query.specs.declared.select.Select.{Select}
-use Rattle.fdw_api.specs.Scan.{KeyForm}
-use Rattle.fdw_api.specs.Wishes.{WishForm, spec2_of}
+use Rattle.fdw_api.specs.Prelude.{KeyForm, WishForm, spec2_of}
 use Rattle.scan_loops.specs.declared.levels.LoopLevel.{LoopLevel}
-use Rattle.scan_loops.specs.Ordered.{order_of, ComesInOrder}
-use Rattle.scan_loops.specs.Streamed.{all_safe}
+use Rattle.scan_loops.specs.Prelude.{order_of, ComesInOrder, all_safe}
 use Rattle.med_planner.specs.Offered.{OfferForm}
 
 -- nothing is wished

@@ -1,10 +1,8 @@
 //! Laws of what is planned.
 #![tactic(auto)]
 
-ghost use Rattle.med_query.specs.Query.{Query, Tables, SameRows};
-ghost use Rattle.med_query.specs.Laws.{IsSteady};
+ghost use Rattle.med_query.specs.Prelude.{Query, Tables, SameRows, IsSteady, IsShownCause};
 ghost use Rattle.med_value.specs.declared.cause.Cause.{Cause as Told};
-ghost use Rattle.med_query.specs.Causes.{IsShownCause};
 
 use med_query::law::answers_ignore_order;
 

@@ -1,17 +1,15 @@
 -- Sessions that are closed one after the other: what is left to be closed.
 use Rattle.std.proofs.Common.{◌≡◌, ℕ, zero, suc, List, [], ◌∷◌, ◌++◌, Option, Some, None, Contains, slice_get, slice_set, slice_index_or, option_map, length, ◌<◌, replicate, inl, inr, ◌⊎◌, refl, ap, sym, ◌∙◌, subst, append_assoc, arith}
 use Rattle.std.proofs.lemmas.List.Elements.{All-append, Contains-append_left, Contains-append_right, Contains-append_cases}
-use Rattle.std.proofs.lemmas.Option.{slice_get-map, slice_get-get_or}
+use Rattle.std.proofs.lemmas.Option.{slice_get-map, slice_get-get_or, same_Some}
 use Rattle.std.proofs.lemmas.List.{map-set}
 use Rattle.med_world.specs.declared.cursors.Seat.{Seat}
 use Rattle.fdw_api.specs.State.{BoxState}
-use Rattle.med_exec.specs.Running.{Held, ServesRun, none_held}
+use Rattle.med_exec.specs.Prelude.{Held, ServesRun, none_held, AreApart}
 use Rattle.med_exec.specs.Rests.{held, IsHeld}
-use Rattle.med_exec.specs.Leaving.{AreApart}
 use Rattle.med_exec.proofs.Leaving.{with_held, serves_beside, serves_before}
 use Rattle.med_world.specs.Open.{Opened, Seated, seated, seats_shown, held_by, AreHeld, AreOwn, seat_cursors, all_cursors}
 use Rattle.med_world.proofs.Closing.{StaysHeld, apart_none}
-use Rattle.med_world.proofs.Lists.{some_same}
 use Rattle.med_world.proofs.NamedTables.{at_place}
 use Rattle.med_world.proofs.Scans.{own_both, among}
 
@@ -75,7 +73,7 @@ shut_at seats place = slice_set seats place None
 
 seat_within : (seats : List (Option Seated)) (place : ℕ) (s : Seated) (slot number : ℕ) → slice_get seats place ≡ Some (Some s) → Contains (held_by s.cursors slot) number → Contains (held_by (all_cursors seats) slot) number
 seat_within [] place s slot number at h = absurd cc
-seat_within (x ∷ seats) zero s slot number at h = in_first (seat_cursors x) (all_cursors seats) slot number (subst (λ (y : Option Seated). Contains (held_by (seat_cursors y) slot) number) (sym (some_same x (Some s) at)) h)
+seat_within (x ∷ seats) zero s slot number at h = in_first (seat_cursors x) (all_cursors seats) slot number (subst (λ (y : Option Seated). Contains (held_by (seat_cursors y) slot) number) (sym (same_Some x (Some s) at)) h)
 seat_within (x ∷ seats) (suc place) s slot number at h = in_second (seat_cursors x) (all_cursors seats) slot number (seat_within seats place s slot number at h)
 
 shut_within : (seats : List (Option Seated)) (place slot number : ℕ) → Contains (held_by (all_cursors (shut_at seats place)) slot) number → Contains (held_by (all_cursors seats) slot) number
@@ -96,12 +94,12 @@ shut_own (x ∷ seats) (suc place) h =
 
 pub one_own : (seats : List (Option Seated)) (place : ℕ) (s : Seated) → slice_get seats place ≡ Some (Some s) → AreOwn (all_cursors seats) → AreOwn s.cursors
 one_own [] place s at h = absurd cc
-one_own (x ∷ seats) zero s at h = subst (λ (y : Option Seated). AreOwn (seat_cursors y)) (some_same x (Some s) at) (own_first (seat_cursors x) (all_cursors seats) h)
+one_own (x ∷ seats) zero s at h = subst (λ (y : Option Seated). AreOwn (seat_cursors y)) (same_Some x (Some s) at) (own_first (seat_cursors x) (all_cursors seats) h)
 one_own (x ∷ seats) (suc place) s at h = one_own seats place s at (own_second (seat_cursors x) (all_cursors seats) h)
 
 one_there : (seats : List (Option Seated)) (place : ℕ) (s : Seated) (c : Opened) → slice_get seats place ≡ Some (Some s) → Contains s.cursors c → Contains (all_cursors seats) c
 one_there [] place s c at h = absurd cc
-one_there (x ∷ seats) zero s c at h = Contains-append_left (seat_cursors x) (all_cursors seats) c (subst (λ (y : Option Seated). Contains (seat_cursors y) c) (sym (some_same x (Some s) at)) h)
+one_there (x ∷ seats) zero s c at h = Contains-append_left (seat_cursors x) (all_cursors seats) c (subst (λ (y : Option Seated). Contains (seat_cursors y) c) (sym (same_Some x (Some s) at)) h)
 one_there (x ∷ seats) (suc place) s c at h = Contains-append_right (seat_cursors x) (all_cursors seats) c (one_there seats place s c at h)
 
 held_of : (cursors : List Opened) (boxes : List (Option BoxState)) → AreHeld cursors boxes → (c : Opened) → Contains cursors c → IsHeld c.run boxes
@@ -116,7 +114,7 @@ pub shut_held : StaysHeld → (seats : List (Option Seated)) (place : ℕ) (s : 
 shut_held law [] place s old new at own good h = absurd cc
 shut_held law (x ∷ seats) zero s old new at own good h = each_held (all_cursors seats) new
     (still_held law (all_cursors seats) (held_by s.cursors) old new (held_second (seat_cursors x) (all_cursors seats) old good)
-    (λ slot number a b. own_apart (seat_cursors x) (all_cursors seats) own slot number (subst (λ (y : Option Seated). Contains (held_by (seat_cursors y) slot) number) (sym (some_same x (Some s) at)) b) a) h)
+    (λ slot number a b. own_apart (seat_cursors x) (all_cursors seats) own slot number (subst (λ (y : Option Seated). Contains (held_by (seat_cursors y) slot) number) (sym (same_Some x (Some s) at)) b) a) h)
 shut_held law (x ∷ seats) (suc place) s old new at own good h =
     All-append (λ (c : Opened). IsHeld c.run new) (seat_cursors x) (all_cursors (shut_at seats place))
     (each_held (seat_cursors x) new (still_held law (seat_cursors x) (held_by s.cursors) old new (held_first (seat_cursors x) (all_cursors seats) old good)
@@ -128,7 +126,7 @@ pub shut_served : (seats : List (Option Seated)) (place : ℕ) (s : Seated) (old
     → ServesRun (held_by (all_cursors seats)) (held_by (all_cursors (shut_at seats place))) old new
 shut_served [] place s old new at h = absurd cc
 shut_served (x ∷ seats) zero s old new at h =
-    subst (λ (y : Option Seated). ServesRun (held_by (seat_cursors y ++ all_cursors seats)) (held_by (all_cursors seats)) old new) (sym (some_same x (Some s) at))
+    subst (λ (y : Option Seated). ServesRun (held_by (seat_cursors y ++ all_cursors seats)) (held_by (all_cursors seats)) old new) (sym (same_Some x (Some s) at))
     (subst (λ (own : Held). ServesRun own (held_by (all_cursors seats)) old new) (sym (joined s.cursors (all_cursors seats))) (serves_before (held_by (all_cursors seats)) (held_by s.cursors) none_held old new h))
 shut_served (x ∷ seats) (suc place) s old new at h =
     subst (λ (own : Held). ServesRun own (held_by (seat_cursors x ++ all_cursors (shut_at seats place))) old new) (sym (joined (seat_cursors x) (all_cursors seats)))
@@ -138,7 +136,7 @@ shut_served (x ∷ seats) (suc place) s old new at h =
 -- one that is closed already
 pub shut_same : (seats : List (Option Seated)) (place : ℕ) → slice_get seats place ≡ Some None → shut_at seats place ≡ seats
 shut_same [] place at = refl
-shut_same (x ∷ seats) zero at = ap (λ (y : Option Seated). y ∷ seats) (sym (some_same x None at))
+shut_same (x ∷ seats) zero at = ap (λ (y : Option Seated). y ∷ seats) (sym (same_Some x None at))
 shut_same (x ∷ seats) (suc place) at = ap (λ (ys : List (Option Seated)). x ∷ ys) (shut_same seats place at)
 
 -- where all are closed, nothing is held

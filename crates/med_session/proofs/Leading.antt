@@ -3,18 +3,12 @@ use Rattle.std.proofs.lemmas.Bool.{false≢true}
 use Rattle.std.proofs.Common.{◌≡◌, ℕ, Bool, true, false, String, Global, string_bytes, List, ◌++◌, codes, refl, subst}
 use Rattle.med_value.specs.Datum.{Tuple}
 use Rattle.med_value.specs.declared.cause.Cause.TheVariants.{OutOfMemory}
-use Rattle.med_syntax.specs.Tree.{Name}
-use Rattle.med_syntax.specs.QueryTree.{StatementTree, select}
+use Rattle.med_syntax.specs.Prelude.{Name, StatementTree, select, declare, fetch, close}
 use Rattle.med_parser.specs.CommandTree.{CommandTree, on_data, on_rows, on_cursors, on_objects}
-use Rattle.med_syntax.specs.CursorTree.{declare, fetch, close}
 use Rattle.med_binder.specs.Looked.{query_in}
-use Rattle.sql_meaning.specs.Requests.{AskedLine, opening, sql, bye}
-use Rattle.sql_meaning.specs.World.{World, Session}
-use Rattle.sql_meaning.specs.Picks.{Pick}
-use Rattle.sql_meaning.specs.Replies.{Reply, answered, refused, reply_text}
+use Rattle.sql_meaning.specs.Prelude.{AskedLine, opening, sql, bye, World, Session, Pick, Reply, answered, refused, reply_text}
 use Rattle.sql_meaning.specs.Steps.{Trouble, TakesMemory, TreeDoes, Does, Step, is_refused, is_done, lacks_memory, fetch_lacks_memory, source_fails, numbers_end, shared_shows}
-use Rattle.med_world.specs.Engine.{Shown, Agrees, TreeAsks, Leads, IsAnswered}
-use Rattle.med_world.specs.Laws.{IsRead}
+use Rattle.med_world.specs.Prelude.{Shown, Agrees, TreeAsks, Leads, IsAnswered, IsRead}
 use Rattle.med_statements.specs.declared.selecting.RowSet.{RowSet}
 use Rattle.med_statements.specs.Outcomes.{RepliesRows, TellsReply, reply_of}
 use Rattle.med_session.specs.Cursors.{IfFetched}

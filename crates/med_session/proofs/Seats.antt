@@ -1,20 +1,14 @@
 -- Seats by the numbers of their sessions: taken out, put in, and put back.
 use Rattle.std.proofs.Common.{◌≡◌, ℕ, ◌-◌, zero, suc, List, [], ◌∷◌, Option, Some, None, Contains, is_some, option_map, false, length, slice_get, slice_set, refl, ap, sym, ◌∙◌, subst}
 use Rattle.std.proofs.lemmas.List.{length-map, length-set}
-use Rattle.med_syntax.specs.CursorTree.{declare}
-use Rattle.med_syntax.specs.QueryTree.{StatementTree, select}
+use Rattle.med_syntax.specs.Prelude.{declare, StatementTree, select, Name}
 use Rattle.med_binder.specs.Looked.{query_in}
 use Rattle.med_world.specs.declared.cursors.Seat.{Seat}
 use Rattle.fdw_api.specs.State.{BoxState}
 use Rattle.med_exec.specs.Rests.{IsRunning}
-use Rattle.med_world.specs.Open.{Opened, Seated, seated, seats_shown}
+use Rattle.med_world.specs.Prelude.{Opened, Seated, seated, seats_shown, Shown, IsSound, IsRead, with_boxes, with_seats, seat_in, seat_of, user_of, IsSoundSeat, with_cursors}
 use Rattle.med_parser.specs.CommandTree.{CommandTree, on_cursors}
-use Rattle.med_syntax.specs.Tree.{Name}
 use Rattle.med_value.specs.Limits.{session_count}
-use Rattle.med_world.specs.Engine.{Shown, IsSound}
-use Rattle.med_world.specs.Laws.{IsRead, with_boxes, with_seats}
-use Rattle.med_world.specs.Seats.{seat_in, seat_of, user_of, IsSoundSeat}
-use Rattle.med_world.specs.Turning.{with_cursors}
 use Rattle.med_session.specs.Cursors.{having}
 
 pub set_twice : {A : Type 0} (xs : List A) (k : ℕ) (x y : A) → slice_set (slice_set xs k x) k y ≡ slice_set xs k y

@@ -2,32 +2,25 @@
 use Rattle.std.proofs.Common.{◌≡◌, ◌⊎◌, inl, inr, ◌<◌, ◌+◌, is_none, if◌then◌else◌, ℕ, Bool, true, false, List, [], ◌∷◌, ◌++◌, Option, Some, None, Result, Ok, Err, OnOk, OnErr, IfErr, IfNone, IsSome, is_some, option_map, cond, slice_get, slice_set, get_or, length, map, remove, zero, suc, refl, ap, sym, ◌∙◌, subst, arith, bytes_eq}
 use Rattle.std.specs.List.{IsDistinct, AllByRecursion}
 use Rattle.std.proofs.lemmas.Bool.{false≢true}
-use Rattle.med_syntax.specs.Tree.{Name}
-use Rattle.fdw_api.specs.State.{BoxState, Scan, scan_of}
-use Rattle.fdw_api.specs.Sound.{IsSoundBox}
+use Rattle.med_syntax.specs.Prelude.{Name, DdlTree, create_wrapper, create_server, create_mapping, create_table, drop_wrapper, drop_server, drop_table, drop_mapping}
+use Rattle.fdw_api.specs.Prelude.{BoxState, Scan, scan_of, IsSoundBox, Column, OptionForm, Binds, CanUnbind, Unbinds}
 use Rattle.fdw_api.specs.declared.interface.Counts.{Counts}
 use Rattle.med_exec.specs.Slots.{counts_at, counts_in, BoxAt, ChangesAt}
-use Rattle.med_catalog.specs.Objects.{ServerObject, TableObject, Objects, server_named, table_named}
-use Rattle.med_catalog.specs.Changes.{ObjectChange, new_server, new_table, no_table, no_server, changed, is_skipped, Asks, skips, makes}
+use Rattle.med_catalog.specs.Prelude.{ServerObject, TableObject, Objects, server_named, table_named, ObjectChange, new_server, new_table, no_table, no_server, changed, is_skipped, Asks, skips, makes, CauseRow, Stands, NoneStands, DdlCauses, IsTold, object_rows, ddl_rows, nothing_leased}
 use Rattle.std.proofs.lemmas.List.{length-map, length_push}
-use Rattle.std.proofs.lemmas.Option.{slice_get-map}
+use Rattle.std.proofs.lemmas.Option.{slice_get-map, same_Some}
 use Rattle.med_binder.specs.declared.bound_table.BoundTable.{BoundTable}
 use Rattle.med_binder.specs.Places.{Attached, attached}
 use Rattle.sql_meaning.specs.World.{is_taken, beside_without}
-use Rattle.med_world.specs.Engine.{Label, Shown, leased, IsNamedAt, IsStandingAt, IsServerAt, IsFirst, IsUnstaged, IsSound, with_change, Alters}
+use Rattle.med_world.specs.Prelude.{Label, Shown, leased, IsNamedAt, IsStandingAt, IsServerAt, IsFirst, IsUnstaged, IsSound, with_change, Alters, HasSource}
 use Rattle.med_value.specs.declared.cause.Cause.{Cause}
-use Rattle.fdw_api.specs.Kinds.{Column, OptionForm}
-use Rattle.fdw_api.specs.Calls.{Binds, CanUnbind, Unbinds}
 use Rattle.med_value.specs.declared.cause.Cause.TheVariants.{OutOfMemory, UndefinedObject, UndefinedTable}
-use Rattle.med_syntax.specs.DdlTree.{DdlTree, create_wrapper, create_server, create_mapping, create_table, drop_wrapper, drop_server, drop_table, drop_mapping}
-use Rattle.med_catalog.specs.DdlCauses.{CauseRow, Stands, NoneStands, DdlCauses, IsTold, object_rows, ddl_rows, nothing_leased}
 use Rattle.med_world.specs.Altering.{IsFreeAt, IsAllowed, SourcesAllow, IsAltered, BindsInVain, NotAltered, catalog_shows, not_free, bind_fails, bind_undone, no_memory as refused_memory}
 use Rattle.med_session.specs.Binding.{BindFails, before_bind, by_fault}
 use Rattle.med_session.specs.Tables.{TableFails, no_memory, fails_by, undone, TakesSource, ServerFails, source_taken, memory_refused}
 use Rattle.med_world.proofs.Faring.{set_this, same_box}
 use Rattle.med_world.proofs.ScansChanged.{fresh_scan}
-use Rattle.med_world.proofs.Lists.{some_same, push_last, one_place, same_bytes, other_bytes}
-use Rattle.med_world.specs.Adding.{HasSource}
+use Rattle.med_world.proofs.Lists.{push_last, one_place, same_bytes, other_bytes}
 use Rattle.med_world.proofs.NamedTables.{map_place, found_place, at_place, place_of}
 use Rattle.med_session.specs.declared.sources.NamedSource.{NamedSource}
 use Rattle.med_session.specs.Shows.{label}
@@ -48,7 +41,7 @@ stands_named e s place x = (x.label, x.there, x.named)
 one_kind : (e : Shown) (s : ServerObject) (p place : ℕ) (l : Label) → IsSound e → slice_get e.labels p ≡ Some l → l.name ≡ s.source → IsStandingAt e s place → l.kind ≡ s.kind
 one_kind e s p place l h there named x =
     let same : p ≡ place = named_once e s.source p place h (l, there, named) (stands_named e s place x) in
-    ap (λ (k : Label). k.kind) (some_same l x.label (sym there ∙ ap (slice_get e.labels) same ∙ x.there)) ∙ x.of_kind
+    ap (λ (k : Label). k.kind) (same_Some l x.label (sym there ∙ ap (slice_get e.labels) same ∙ x.there)) ∙ x.of_kind
 
 pub of_other_kind : (e : Shown) (s : ServerObject) (p : ℕ) (l : Label) → IsSound e → slice_get e.labels p ≡ Some l → l.name ≡ s.source → (l.kind ≡ s.kind → ⊥) → (place : ℕ) → IsFreeAt e s place → ⊥
 of_other_kind e s p l h there named other place x = other (one_kind e s p place l h there named x.stands)
@@ -78,7 +71,7 @@ dropped_by e s p h named none place x =
 
 apart : (n : Name) (ts : List TableObject) (k : ℕ) (t : TableObject) → AllByRecursion (λ m. bytes_eq n m ≡ false) (map (λ (x : TableObject). x.name) ts) → slice_get ts k ≡ Some t → bytes_eq n t.name ≡ false
 apart n [] k t h at = absurd cc
-apart n (x ∷ xs) zero t h at = subst (λ (y : TableObject). bytes_eq n y.name ≡ false) (some_same x t at) h.0
+apart n (x ∷ xs) zero t h at = subst (λ (y : TableObject). bytes_eq n y.name ≡ false) (same_Some x t at) h.0
 apart n (x ∷ xs) (suc k) t h at = apart n xs k t h.1 at
 
 turned : (a b : Name) → bytes_eq a b ≡ false → bytes_eq b a ≡ false
@@ -88,7 +81,7 @@ turned a b h = other_bytes b a (λ e. false≢true (sym h ∙ same_bytes a b (sy
 pub first_at : (ts : List TableObject) (n : Name) (k : ℕ) (t : TableObject) → IsDistinct bytes_eq (map (λ (x : TableObject). x.name) ts) → slice_get ts k ≡ Some t → t.name ≡ n → IsFirst n ts k
 unfolding IsDistinct
 first_at [] n k t h at is = absurd cc
-first_at (x ∷ xs) n zero t h at is = same_bytes n x.name (sym is ∙ ap (λ (y : TableObject). y.name) (sym (some_same x t at)))
+first_at (x ∷ xs) n zero t h at is = same_bytes n x.name (sym is ∙ ap (λ (y : TableObject). y.name) (sym (same_Some x t at)))
 first_at (x ∷ xs) n (suc k) t h at is =
     (ap (λ m. bytes_eq m x.name) (sym is) ∙ turned x.name t.name (apart x.name xs k t h.0 at), first_at xs n k t h.1 at is)
 
@@ -104,7 +97,7 @@ removed_first n (t ∷ ts) (x ∷ xs) (suc k) first same =
 -- the label of a source that is read in its place
 pub label_read : (xs : List NamedSource) (place : ℕ) (s : NamedSource) (l : Label) → s ≡ get_or xs place s → slice_get (map label xs) place ≡ Some l → l ≡ label s
 label_read [] place s l read at = absurd cc
-label_read (x ∷ xs) zero s l read at = sym (some_same (label x) l at) ∙ ap label (sym read)
+label_read (x ∷ xs) zero s l read at = sym (same_Some (label x) l at) ∙ ap label (sym read)
 label_read (x ∷ xs) (suc k) s l read at = label_read xs k s l read at
 
 -- ---- servers by their names
@@ -191,7 +184,7 @@ pub last_bound : (old new : List BoundTable) (place number : ℕ) (t : BoundTabl
     → attached t ≡ record { source = place; number = number }
 last_bound old new place number t is at =
     let n : length (map attached old) ≡ length old = length-map old attached in
-    some_same (attached t) (record { source = place; number = number })
+    same_Some (attached t) (record { source = place; number = number })
     (sym (attached_at new (length old) t at) ∙ ap (λ (xs : List Attached). slice_get xs (length old)) is
     ∙ ap (slice_get (map attached old ++ record { source = place; number = number } ∷ [])) (sym n) ∙ push_last (map attached old) (record { source = place; number = number }))
 

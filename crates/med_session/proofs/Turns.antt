@@ -1,28 +1,21 @@
 -- A FETCH that gave rows, which may not be told.
 use Rattle.std.proofs.Common.{◌≡◌, ℕ, zero, suc, ◌-◌, true, false, arith, List, Option, Some, None, is_some, slice_set, refl, ap, sym, ◌∙◌, subst}
+use Rattle.std.proofs.lemmas.Option.{same_Some}
 use Rattle.med_value.specs.Datum.{Tuple}
 use Rattle.med_value.specs.declared.cause.Cause.{Cause}
 use Rattle.med_value.specs.declared.cause.Cause.TheVariants.{OutOfMemory, InvalidCursorName, FetchZero}
-use Rattle.med_syntax.specs.Tree.{Name}
-use Rattle.med_syntax.specs.CursorTree.{CountTree, some_rows, all_rows, CursorTree, fetch}
+use Rattle.med_syntax.specs.Prelude.{Name, CountTree, some_rows, all_rows, CursorTree, fetch}
 use Rattle.fdw_api.specs.State.{BoxState}
 use Rattle.med_exec.specs.declared.running.Run.{Run}
-use Rattle.med_exec.specs.Running.{ServesRun, none_held}
+use Rattle.med_exec.specs.Prelude.{ServesRun, none_held}
 use Rattle.med_exec.specs.Rests.{held}
 use Rattle.med_parser.specs.CommandCauses.{is_fetch_zero_command}
 use Rattle.med_parser.specs.CommandTree.{on_cursors}
-use Rattle.med_world.specs.Open.{Opened, Seated, opened_named, without_named, with_run}
+use Rattle.med_world.specs.Prelude.{Opened, Seated, opened_named, without_named, with_run, seat_of, Shown, IsSound, Leads, IsRead, with_cursors, having_asked, IsOfOpen, Ends, later}
 use Rattle.med_world.specs.Fetching.{GivesNone, no_memory, cause_of, has_enough, HasRisen, PullsEnded}
 use Rattle.med_world.proofs.Asking.{risen_by}
 use Rattle.med_world.proofs.Pulled.{pulls_ended}
-use Rattle.med_world.proofs.Lists.{some_same}
-use Rattle.sql_meaning.specs.Requests.{AskedLine, sql, IsSid}
-use Rattle.sql_meaning.specs.Steps.{TakesMemory}
-use Rattle.sql_meaning.specs.Replies.{refused}
-use Rattle.med_world.specs.Seats.{seat_of}
-use Rattle.med_world.specs.Engine.{Shown, IsSound, Leads}
-use Rattle.med_world.specs.Laws.{IsRead}
-use Rattle.med_world.specs.Turning.{with_cursors, having_asked, IsOfOpen, Ends, later}
+use Rattle.sql_meaning.specs.Prelude.{AskedLine, sql, IsSid, TakesMemory, refused}
 use Rattle.med_session.specs.Cursors.{having, Fetched, NoneAsked, is_unknown, lacks_memory, KeepsCursors, GivesUp, NotFetched, cause_in, LosesCursor, MayBeUntold, IfFetched}
 use Rattle.med_session.specs.declared.cursors.FetchFault.{FetchFault}
 use Rattle.med_session.specs.declared.cursors.FetchFault.TheVariants as fault
@@ -61,10 +54,10 @@ lost law e sid text seat name asked names rows after mid read is_open sound f ne
     seat_now = having (having_asked seat f.count) (with_run name f.run seat.cursors)
 
     same_seat : l.seat ≡ seat_now
-    same_seat = some_same l.seat seat_now (sym l.is_open ∙ seat_put e.seats sid seat seat_now is_open)
+    same_seat = same_Some l.seat seat_now (sym l.is_open ∙ seat_put e.seats sid seat seat_now is_open)
 
     same_at : l.at ≡ record f.at { run = f.run }
-    same_at = some_same l.at (record f.at { run = f.run }) (sym l.there ∙ ap (λ (s : Seated). opened_named name s.cursors) same_seat ∙ named_runs name f.run seat.cursors f.at f.there)
+    same_at = same_Some l.at (record f.at { run = f.run }) (sym l.there ∙ ap (λ (s : Seated). opened_named name s.cursors) same_seat ∙ named_runs name f.run seat.cursors f.at f.there)
 
     closes : ServesRun (held f.run) none_held mid new.boxes
     closes = subst (λ (o : Opened). ServesRun (held o.run) none_held mid new.boxes) same_at l.closes

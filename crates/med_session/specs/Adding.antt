@@ -3,8 +3,7 @@ use Rattle.std.specs.Prelude.{◌≡◌, ◌<◌, ℕ, List, length, Option, Non
 use Rattle.fdw_api.specs.declared.interface.Counts.{Counts}
 use Rattle.med_exec.specs.Slots.{counts_at}
 use Rattle.med_value.specs.Limits.{source_limit}
-use Rattle.med_world.specs.Engine.{Label, Shown, IsNamedAt}
-use Rattle.med_world.specs.Adding.{HasSource}
+use Rattle.med_world.specs.Prelude.{Label, Shown, IsNamedAt, HasSource}
 use Rattle.med_session.specs.declared.adding.AddFault.{AddFault}
 use Rattle.med_session.specs.declared.adding.AddFault.TheVariants.{NoMemory, Taken, TooMany}
 

@@ -4,24 +4,16 @@ use Rattle.std.specs.Prelude.{◌≡◌, ℕ, true, List, [], ◌∷◌, ◌++�
 use Rattle.med_value.specs.Datum.{Tuple}
 use Rattle.med_value.specs.declared.cause.Cause.{Cause}
 use Rattle.med_value.specs.declared.cause.Cause.TheVariants.{DuplicateCursor, InvalidCursorName, OutOfMemory}
-use Rattle.med_syntax.specs.Tree.{Name}
-use Rattle.med_syntax.specs.QueryTree.{SelectTree}
-use Rattle.med_syntax.specs.CursorTree.{CountTree}
+use Rattle.med_syntax.specs.Prelude.{Name, SelectTree, CountTree}
 use Rattle.fdw_api.specs.State.{BoxState}
 use Rattle.med_exec.specs.declared.running.Run.{Run}
-use Rattle.med_exec.specs.Pulling.{PullsNone}
-use Rattle.med_exec.specs.Running.{ServesRun, none_held}
+use Rattle.med_exec.specs.Prelude.{PullsNone, ServesRun, none_held}
 use Rattle.med_exec.specs.Rests.{held}
 use Rattle.med_catalog.specs.Objects.{Objects}
 use Rattle.med_binder.specs.Places.{Attached}
-use Rattle.med_world.specs.Open.{Opened, Seated, is_full, opened_named, without_named, with_run}
-use Rattle.med_world.specs.Starting.{Starts, StartFails}
+use Rattle.med_world.specs.Prelude.{Opened, Seated, is_full, opened_named, without_named, with_run, Starts, StartFails, seat_of, new_opened, with_cursors, having_asked, Ends, Shown, Leads}
 use Rattle.med_world.specs.Fetching.{GivesRows, GivesNone, HasRisen, PullsFetched, PullsEnded, cause_of}
-use Rattle.sql_meaning.specs.Requests.{AskedLine}
-use Rattle.sql_meaning.specs.Replies.{refused}
-use Rattle.med_world.specs.Seats.{seat_of}
-use Rattle.med_world.specs.Turning.{new_opened, with_cursors, having_asked, Ends}
-use Rattle.med_world.specs.Engine.{Shown, Leads}
+use Rattle.sql_meaning.specs.Prelude.{AskedLine, refused}
 use Rattle.med_statements.specs.declared.replies.Outcome.{Outcome}
 use Rattle.med_statements.specs.declared.replies.Outcome.TheVariants as outcome
 use Rattle.med_session.specs.declared.cursors.FetchFault.{FetchFault}

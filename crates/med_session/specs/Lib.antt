@@ -10,3 +10,4 @@ pub mod Cursors
 pub mod Adding
 pub mod Binding
 pub mod Tables
+pub mod Prelude

@@ -4,8 +4,7 @@ use Rattle.fdw_api.specs.State.{BoxState}
 use Rattle.med_exec.specs.Slots.{states}
 use Rattle.med_catalog.specs.View.{objects}
 use Rattle.med_binder.specs.Places.{attached}
-use Rattle.med_world.specs.Open.{seats_shown}
-use Rattle.med_world.specs.Engine.{Label, Shown}
+use Rattle.med_world.specs.Prelude.{seats_shown, Label, Shown}
 use Rattle.med_session.specs.declared.sources.NamedSource.{NamedSource}
 use Rattle.med_session.specs.declared.engine.Engine.{Engine}
 

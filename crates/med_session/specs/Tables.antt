@@ -5,11 +5,8 @@ use Rattle.med_value.specs.declared.cause.Cause.TheVariants.{UnableToConnect, Ou
 use Rattle.fdw_api.specs.Calls.{RefusesBind}
 use Rattle.fdw_api.specs.declared.interface.Fault.{Fault}
 use Rattle.med_exec.specs.Slots.{ChangesAt}
-use Rattle.med_catalog.specs.Objects.{ServerObject, TableObject}
-use Rattle.med_world.specs.Engine.{Shown, IsServerAt, with_change}
-use Rattle.med_world.specs.Altering.{IsFreeAt, BindsInVain}
-use Rattle.med_catalog.specs.Changes.{new_server}
-use Rattle.med_world.specs.Fetching.{cause_of}
+use Rattle.med_catalog.specs.Prelude.{ServerObject, TableObject, new_server}
+use Rattle.med_world.specs.Prelude.{Shown, IsServerAt, with_change, IsFreeAt, BindsInVain, cause_of}
 
 pub data TableFails (old : Shown) (t : TableObject) (c : Cause) (new : Shown) : Type 0 where
   -- memory was refused before the bind

@@ -2,8 +2,7 @@
 ghost use Rattle.fdw_api.specs.State.{IsIdle};
 ghost use Rattle.med_exec.specs.Slots.{states};
 ghost use Rattle.med_session.specs.Shows.{label};
-ghost use Rattle.med_world.specs.Adding.{HasSource};
-ghost use Rattle.med_world.specs.Engine.{IsNamedAt};
+ghost use Rattle.med_world.specs.Prelude.{HasSource, IsNamedAt};
 ghost use Rattle.std.specs.Prelude.{◌≡◌, map, IfSome, IfNone, IfErr, OnOk, OnErr};
 
 use crate::engine::Engine;
@@ -49,8 +48,7 @@ pub(crate) fn place_of_source(sources: &[NamedSource], name: &str) -> Option<usi
 impl<W: Wrapper2> Engine<W> {
     ghost use Rattle.med_session.specs.Adding.{AddCause, AreCounts};
     ghost use Rattle.med_session.specs.Shows.{shown};
-    ghost use Rattle.med_world.specs.Adding.{Adds};
-    ghost use Rattle.med_world.specs.Engine.{Shown, IsSound, Agrees, TakesAs, EachBox, IsAtRest, ClosesAll, state_of};
+    ghost use Rattle.med_world.specs.Prelude.{Adds, Shown, IsSound, Agrees, TakesAs, EachBox, IsAtRest, ClosesAll, state_of};
     ghost use Rattle.sql_meaning.specs.World.{World, with_source};
 
     /// Adds a source under a name, any text, that HANDLER names by this kind. Its wrapper is to be idle: nothing bound, live or staged;

@@ -1,11 +1,7 @@
 //! Statements on objects: what the catalogue asks of them, and what the boxes of sources are asked for it.
-ghost use Rattle.med_syntax.specs.DdlView.{ddl_tree};
-ghost use Rattle.fdw_api.specs.Calls.{CanBind};
-ghost use Rattle.fdw_api.specs.State.{BoxState, IsIdle};
-ghost use Rattle.med_catalog.specs.Changes.{CanChange};
-ghost use Rattle.med_catalog.specs.Objects.{server_named, table_named};
-ghost use Rattle.med_catalog.specs.View.{change_of, server_of, table_of};
-ghost use Rattle.med_syntax.specs.Tree.{Name};
+ghost use Rattle.med_syntax.specs.Prelude.{ddl_tree, Name};
+ghost use Rattle.fdw_api.specs.Prelude.{CanBind, BoxState, IsIdle};
+ghost use Rattle.med_catalog.specs.Prelude.{CanChange, server_named, table_named, change_of, server_of, table_of};
 ghost use Rattle.med_value.specs.declared.cause.Cause.TheVariants.{OutOfMemory};
 ghost use Rattle.std.specs.Prelude.{◌≡◌, ℕ, true, false, None, Some, IsSome, IfSome, IfNone, IfErr, OnOk, OnErr, slice_get, string_bytes};
 
@@ -37,8 +33,7 @@ fn is_same_kind(one: SourceKind, other: SourceKind) -> bool
 impl<W: Wrapper2> Engine<W> {
     ghost use Rattle.med_session.specs.Shows.{shown};
     ghost use Rattle.med_session.specs.Tables.{TableFails, TakesSource, ServerFails};
-    ghost use Rattle.med_world.specs.Altering.{IsFreeAt, IsAltered, NotAltered};
-    ghost use Rattle.med_world.specs.Engine.{IsSound, IsServerAt, leased, with_change, BindsTable, UnbindsTable, DropsBox};
+    ghost use Rattle.med_world.specs.Prelude.{IsFreeAt, IsAltered, NotAltered, IsSound, IsServerAt, leased, with_change, BindsTable, UnbindsTable, DropsBox};
 
     // The place of the source of this server.
     fn server_place(&self, server: &str) -> Option<usize>

@@ -1,9 +1,7 @@
 //! Foreign tables that are bound in the boxes of their sources, or let go, and boxes that are dropped.
 ghost use Rattle.med_binder.specs.Places.{attached};
 ghost use Rattle.med_binder.specs.declared.bound_table.BoundTable.{BoundTable};
-ghost use Rattle.fdw_api.specs.Calls.{CanBind, CanUnbind, Unbinds};
-ghost use Rattle.fdw_api.specs.Kinds.{column_of, option_form};
-ghost use Rattle.fdw_api.specs.State.{IsIdle};
+ghost use Rattle.fdw_api.specs.Prelude.{CanBind, CanUnbind, Unbinds, column_of, option_form, IsIdle};
 ghost use Rattle.med_exec.specs.Slots.{states, BoxAt, ChangesAt};
 ghost use Rattle.med_session.specs.Binding.{BindsLast, BindFails};
 ghost use Rattle.std.specs.Prelude.{◌≡◌, ◌<◌, None, Some, map, remove, slice_get, slice_set, length, IfErr, OnOk, OnErr};

@@ -1,17 +1,13 @@
 //! The cursors of a session: DECLARE, FETCH and CLOSE (SQL:2016, part 2, 14 "Data manipulation").
 ghost use Rattle.std.specs.Prelude.{◌≡◌, Contains, length, map, IfOk, OnOk, IfErr, OnErr, string_bytes};
 ghost use Rattle.med_value.specs.Datum.{tuple};
-ghost use Rattle.med_syntax.specs.QueryView.{statement_tree};
-ghost use Rattle.med_syntax.specs.CursorView.{count_tree};
-ghost use Rattle.med_binder.specs.Looked.{query_in};
-ghost use Rattle.med_binder.specs.Places.{attached};
-ghost use Rattle.med_binder.specs.Tables.{AreNamedOnce};
+ghost use Rattle.med_syntax.specs.Prelude.{statement_tree, count_tree};
+ghost use Rattle.med_binder.specs.Prelude.{query_in, attached, AreNamedOnce};
 ghost use Rattle.med_catalog.specs.View.{objects};
-ghost use Rattle.med_exec.specs.Slots.{states};
-ghost use Rattle.med_statements.specs.Ready.{AreReady};
+ghost use Rattle.med_exec.specs.Prelude.{states};
 ghost use Rattle.med_exec.specs.Rests.{IsRunning};
-ghost use Rattle.med_world.specs.Open.{Opened, seated};
-ghost use Rattle.med_world.specs.Seats.{IsSoundSeat};
+ghost use Rattle.med_statements.specs.Ready.{AreReady};
+ghost use Rattle.med_world.specs.Prelude.{Opened, seated, IsSoundSeat};
 ghost use Rattle.med_session.specs.Cursors.{Opens, OpensNone, Fetched, NotFetched, Ended, NotEnded, cause_in};
 
 use fdw_api::wishes::Wrapper2;

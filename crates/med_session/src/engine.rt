@@ -51,8 +51,7 @@ impl<W: Wrapper2> Engine<W> {
     ghost use Rattle.med_session.specs.Shows.{shown};
     ghost use Rattle.med_value.specs.Limits.{session_count};
     ghost use Rattle.med_world.specs.Engine.{IsSound, Agrees, Leads, IsAnswered, Closes, ClosesAll};
-    ghost use Rattle.sql_meaning.specs.Requests.{IsUser, opening, sql, bye};
-    ghost use Rattle.sql_meaning.specs.World.{empty_world};
+    ghost use Rattle.sql_meaning.specs.Prelude.{IsUser, opening, sql, bye, empty_world};
 
     /// An engine with no object and no source, and every session closed.
     ///

@@ -1,10 +1,8 @@
 //! The places of the sessions: that of session n is n - 1, and holds its seat where it is open.
 ghost use Rattle.std.specs.Prelude.{◌≡◌, ◌-◌, None, Some, is_some, option_map, replicate, slice_set, vec_len, IfOk};
-ghost use Rattle.med_exec.specs.Running.{ServesRun, none_held};
-ghost use Rattle.med_exec.specs.Slots.{states};
+ghost use Rattle.med_exec.specs.Prelude.{ServesRun, none_held, states};
 ghost use Rattle.med_value.specs.Limits.{session_count};
-ghost use Rattle.med_world.specs.Seats.{seat_of, user_of};
-ghost use Rattle.med_world.specs.Open.{seated, seats_shown, held_by, AreHeld, AreOwn, all_cursors};
+ghost use Rattle.med_world.specs.Prelude.{seat_of, user_of, seated, seats_shown, held_by, AreHeld, AreOwn, all_cursors};
 
 use crate::session::Sid;
 use fdw_api::wishes::Wrapper2;

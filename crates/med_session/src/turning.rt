@@ -1,13 +1,10 @@
 //! Statements on cursors: DECLARE, FETCH and CLOSE in the session that asks them.
 ghost use Rattle.std.specs.Prelude.{ℕ, List, IsSome, string_bytes};
 ghost use Rattle.med_syntax.specs.CursorTree.{declare as declare_tree, fetch as fetch_tree, close as close_tree};
-ghost use Rattle.med_syntax.specs.CursorView.{count_tree, cursor_tree};
+ghost use Rattle.med_syntax.specs.Prelude.{count_tree, cursor_tree, statement_tree, Name};
 ghost use Rattle.med_parser.specs.CommandTree.{on_cursors};
-ghost use Rattle.med_syntax.specs.QueryView.{statement_tree};
-ghost use Rattle.med_syntax.specs.Tree.{Name};
-ghost use Rattle.med_world.specs.Laws.{IsRead};
+ghost use Rattle.med_world.specs.Prelude.{IsRead, seat_of};
 ghost use Rattle.sql_meaning.specs.Requests.{sql};
-ghost use Rattle.med_world.specs.Seats.{seat_of};
 
 use crate::cursors::{end_cursor, fetch_rows, open_cursor};
 use crate::engine::Engine;

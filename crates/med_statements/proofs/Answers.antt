@@ -3,21 +3,15 @@ use Rattle.std.proofs.Common.{◌≡◌, ◌+◌, ℕ, suc, true, false, Bool, n
 use Rattle.std.proofs.lemmas.List.Elements.{All-cons, All-nil, All-head, All-tail, All-append, All-filter, All-map, All-take, All-drop}
 use Rattle.std.proofs.lemmas.List.Sorted.{All-permutation}
 use Rattle.std.proofs.lemmas.List.Sums.{list_all-from_AllPass}
-use Rattle.med_value.specs.Column.{Column}
-use Rattle.med_value.specs.Datum.{Tuple}
+use Rattle.med_value.specs.Prelude.{Column, Tuple}
 use Rattle.med_value.specs.declared.value.ColType.{ColType}
 use Rattle.med_syntax.specs.Tree.{Name}
 use Rattle.med_syntax.specs.QueryTree.{ItemTree, all, all_of, value, CoreTree, SelectTree, cores_of}
-use Rattle.tri_expr.specs.Meaning.{means}
-use Rattle.tri_expr.specs.Outcome.{over, value_of}
-use Rattle.tri_expr.specs.Tree.{column}
-use Rattle.med_query.specs.Form.{core_by, query_by}
-use Rattle.med_query.specs.Lists.{distinct, tuple_eq}
-use Rattle.med_query.specs.Query.{Core, Tables, Grouping, Output, key_of, has_key, keeps, kept, joined, classes_by, classes_of, classes, has_class, kept_classes, output, outputs_all, output_eq, core_outputs, outputs, limited, IsAnswer}
+use Rattle.tri_expr.specs.Prelude.{means, over, value_of, column}
+use Rattle.med_query.specs.Prelude.{core_by, query_by, distinct, tuple_eq, Core, Tables, Grouping, Output, key_of, has_key, keeps, kept, joined, classes_by, classes_of, classes, has_class, kept_classes, output, outputs_all, output_eq, core_outputs, outputs, limited, IsAnswer}
 use Rattle.fdw_api.specs.Scan.{row_fits}
 use Rattle.med_write.specs.Writing.{outcomes_of}
-use Rattle.bind_names.specs.Scope.{TableShape, Scope, is_meant, columns_of, entries_of, query_entries, from_scope}
-use Rattle.bind_names.specs.Meaning.{resolved, shown_name, columns_from, starred_in, starred, item_outputs, outputs_of, meant_in}
+use Rattle.bind_names.specs.Prelude.{TableShape, Scope, is_meant, columns_of, entries_of, query_entries, from_scope, resolved, shown_name, columns_from, starred_in, starred, item_outputs, outputs_of, meant_in}
 use Rattle.bind_names.specs.Meaning as names
 use Rattle.bind_types.specs.TreeTypes.{tree_type, column_kinds}
 use Rattle.bind_types.specs.Typing.{core_types}

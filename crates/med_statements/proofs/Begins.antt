@@ -1,37 +1,25 @@
 -- The run of a bound query: begun, or why not.
 use Rattle.std.proofs.Common.{◌≡◌, ◌∙◌, ℕ, ◌<◌, Bool, false, List, Option, map, refl, sym, ap, subst, string_bytes}
-use Rattle.med_value.specs.Datum.{Tuple}
-use Rattle.med_syntax.specs.Tree.{Name}
-use Rattle.med_syntax.specs.QueryTree.{SelectTree}
-use Rattle.med_query.specs.Form.{Form, form_of, is_risky_form}
+use Rattle.med_value.specs.Prelude.{Tuple, phase_of}
+use Rattle.med_syntax.specs.Prelude.{Name, SelectTree}
+use Rattle.med_query.specs.Prelude.{Form, form_of, is_risky_form, IsSteady, Query, IsShownCause}
 use Rattle.med_planner.specs.Plain.{IsPlainForm, IsBareForm}
-use Rattle.med_query.specs.Laws.{IsSteady}
-use Rattle.med_query.specs.Query.{Query}
 use Rattle.med_query.specs.Select.{query_of as written_query}
-use Rattle.fdw_api.specs.Kinds.{is_of_run}
-use Rattle.fdw_api.specs.State.{BoxState}
-use Rattle.med_value.specs.Causes.{phase_of}
+use Rattle.fdw_api.specs.Prelude.{is_of_run, BoxState}
 use Rattle.fdw_api.specs.declared.interface.Fault.{Fault}
-use Rattle.med_binder.specs.Place.{Place, entry_place}
-use Rattle.med_query.specs.Causes.{IsShownCause}
+use Rattle.med_binder.specs.Prelude.{Place, entry_place, meant_by, Attached, bound_widths, widths, shapes}
 use Rattle.med_planner.specs.Planned.{entry_rows}
 use Rattle.med_exec.specs.Running.{AllServed, ServesRun, Stops, lacks_memory, source_fails, numbers_end, query_shows, Begun, none_held}
+use Rattle.med_exec.specs.Prelude.{AsksNone, ShowsAll, OpensScans}
 use Rattle.med_exec.specs.Rests.{Rests, held, IsRunning}
 use Rattle.med_exec.specs.declared.running.Run.{Run}
 use Rattle.med_binder.specs.declared.bound.BoundQuery.{BoundQuery}
 use Rattle.med_value.specs.declared.cause.Cause.{Cause}
 use Rattle.med_catalog.specs.Objects.{Objects}
-use Rattle.med_binder.specs.Queries.{meant_by}
-use Rattle.med_binder.specs.Places.{Attached}
-use Rattle.med_world.specs.Fetching.{cause_of}
+use Rattle.med_world.specs.Prelude.{cause_of, ReadsTables}
 use Rattle.sql_meaning.specs.Sizes.{is_large_form}
-use Rattle.med_world.specs.Counted.{ReadsTables}
 use Rattle.med_world.specs.Starting.{HoldsOf, RestsOver, Starts, RunFails, no_memory, box_fails, numbers_out, shows_cause, StartFails, run_fails}
-use Rattle.med_exec.specs.Starting.{AsksNone, ShowsAll, OpensScans}
-use Rattle.med_binder.specs.Counted.{bound_widths}
-use Rattle.med_binder.specs.Within.{widths}
 use Rattle.bind_names.specs.Scope.{query_scope}
-use Rattle.med_binder.specs.Tables.{shapes}
 use Rattle.med_statements.proofs.Selections.{ExpressionsIgnoreOrder, AnswersInAnyOrder, CausesInAnyOrder, IsBoundBy, steady, same_back, query_bound, entries_counted}
 
 -- what the run may give are answers in whatever order the rows of the entries come

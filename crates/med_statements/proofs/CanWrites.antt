@@ -3,16 +3,11 @@ use Rattle.std.proofs.Common.{◌≡◌, ℕ, ◌+◌, List, Option, Some, is_so
 use Rattle.med_value.specs.Datum.{Tuple}
 use Rattle.med_value.specs.declared.value.ColType.{ColType}
 use Rattle.med_syntax.specs.WriteTree.{WriteTree}
-use Rattle.fdw_api.specs.Kinds.{kinds_of}
-use Rattle.fdw_api.specs.State.{BoxTable, BoxState, table_of}
-use Rattle.fdw_api.specs.Calls.{NoScan}
-use Rattle.fdw_api.specs.Sound.{IsTableOf, IsSoundBox}
-use Rattle.med_exec.specs.Slots.{BoxAt}
+use Rattle.fdw_api.specs.Prelude.{kinds_of, BoxTable, BoxState, table_of, NoScan, IsTableOf, IsSoundBox}
+use Rattle.med_exec.specs.Prelude.{BoxAt, IsTypedWrite, CanWrite}
 use Rattle.med_catalog.specs.Objects.{TableObject, Objects, table_named}
-use Rattle.med_binder.specs.Places.{Attached}
-use Rattle.med_binder.specs.Tables.{shapes}
+use Rattle.med_binder.specs.Prelude.{Attached, shapes}
 use Rattle.med_write.specs.Form.{WriteForm, form_of}
-use Rattle.med_exec.specs.Writing.{IsTypedWrite, CanWrite}
 use Rattle.bind_write.specs.Meaning.{target_of, columns_in, write_meant}
 use Rattle.bind_types.specs.TreeTypes.{column_kinds}
 use Rattle.bind_write.proofs.Targets.{target_columns}

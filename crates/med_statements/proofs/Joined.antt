@@ -2,14 +2,11 @@
 use Rattle.std.proofs.Common.{◌≡◌, ◌+◌, ℕ, suc, true, filter, arith, length, List, [], ◌∷◌, ◌++◌, map, flat_map, All, Some, slice_get, replicate, refl, sym, ap, ◌∙◌, subst, append_assoc, append-nil}
 use Rattle.std.proofs.lemmas.List.{map-append}
 use Rattle.std.proofs.lemmas.List.Elements.{All-cons, All-nil, All-head, All-tail, All-append, All-filter}
-use Rattle.med_value.specs.Column.{Column}
-use Rattle.med_value.specs.Datum.{NoValue, Tuple}
+use Rattle.med_value.specs.Prelude.{Column, NoValue, Tuple}
 use Rattle.med_value.specs.declared.value.ColType.{ColType}
 use Rattle.med_syntax.specs.QueryTree.{EntryTree, JoinTree, inner_join, left_join, cross_join, ChainTree}
-use Rattle.tri_expr.specs.Meaning.{OnClass, means}
-use Rattle.tri_expr.specs.Tree.{conjunct_trees}
-use Rattle.med_query.specs.Form.{join_by, joins_by, chain_by}
-use Rattle.med_query.specs.Query.{Tables, Chain, Table, beside, pairs, keeps, or_nulls, matched, joined_chain, joined_chains}
+use Rattle.tri_expr.specs.Prelude.{OnClass, means, conjunct_trees}
+use Rattle.med_query.specs.Prelude.{join_by, joins_by, chain_by, Tables, Chain, Table, beside, pairs, keeps, or_nulls, matched, joined_chain, joined_chains}
 use Rattle.fdw_api.specs.Scan.{has_kind, is_clean, row_fits}
 use Rattle.bind_names.specs.Scope.{TableShape, Scope, columns_of, joined_entry, chain_entries, entries_of, entry_columns, entry_shape, from_scope}
 use Rattle.bind_names.specs.Meaning as names

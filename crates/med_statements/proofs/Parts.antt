@@ -2,14 +2,9 @@
 use Rattle.std.proofs.Common.{ℕ, codes, List, [], ◌∷◌, ◌++◌, flat_map, All, Option, sym, subst}
 use Rattle.std.proofs.lemmas.List.Elements.{All-cons, All-nil, All-append}
 use Rattle.med_lexer.specs.Lexemes.{Shape}
-use Rattle.med_syntax.specs.Tree.{Name}
-use Rattle.med_syntax.specs.Terminal.{Terminal}
+use Rattle.med_syntax.specs.Prelude.{Name, Terminal, ExprTree, ExprTrees, num, negative, text, truth, null, column, call_all, call, paren, minus, binary, between, among, like, compare, tested, negation, chain, none, more, spelling, parts_spelling, spellings, IsExpr, shapes, keywords, SpellsOthers, SpellsList, SpellsItem, SpellsExpr, SpellsCore, SpellsUnions, IsStatement, GivenTree, values, rows_of, SetTree, UpdateTree, WriteTree, insert, update, delete}
 use Rattle.med_syntax.specs.Terminal as t
-use Rattle.med_syntax.specs.ExprTree.{ExprTree, ExprTrees, num, negative, text, truth, null, column, call_all, call, paren, minus, binary, between, among, like, compare, tested, negation, chain, none, more, spelling, parts_spelling, spellings, IsExpr}
 use Rattle.med_syntax.specs.QueryTree.{ItemTree, all, all_of, value, CoreTree, SelectTree, select}
-use Rattle.med_syntax.specs.Shapes.{shapes}
-use Rattle.med_syntax.specs.QueryGrammar.{keywords, SpellsOthers, SpellsList, SpellsItem, SpellsExpr, SpellsCore, SpellsUnions, IsStatement}
-use Rattle.med_syntax.specs.WriteTree.{GivenTree, values, rows_of, SetTree, UpdateTree, WriteTree, insert, update, delete}
 use Rattle.write_parser.specs.WriteGrammar.{SpellsTuple, SpellsValues, SpellsInsert, SpellsSet, SpellsUpdate, IsInsert, IsLineOf, IsWrite, HasWrite}
 use Rattle.bind_write.specs.Naming.{set_values}
 use Rattle.bind_write.proofs.Lists.{flat_over}

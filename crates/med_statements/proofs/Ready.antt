@@ -1,41 +1,27 @@
 -- A query that was bound over the tables of a catalogue may be asked of the boxes in which these are bound.
 use Rattle.std.proofs.Common.{◌≡◌, ◌∙◌, inl, true, eqb, cond, ℕ, ◌+◌, zero, suc, List, [], ◌∷◌, ◌++◌, Option, Some, None, map, flat_map, length, slice_get, is_some, unwrap_or, Contains, refl, ap, sym, subst, arith, if◌then◌else◌}
 use Rattle.std.proofs.lemmas.List.{length-map}
+use Rattle.std.proofs.lemmas.Option.{same_Some}
 use Rattle.med_value.specs.Column.{Column}
 use Rattle.med_value.specs.declared.cause.Cause.{Cause}
 use Rattle.med_value.specs.declared.cause.Cause.TheVariants.{UndefinedTable}
 use Rattle.med_value.specs.declared.value.ColType.{ColType}
-use Rattle.med_syntax.specs.QueryTree.{EntryTree, SelectTree, StatementTree, select}
-use Rattle.med_syntax.specs.Tree.{Name}
-use Rattle.med_query.specs.Select.{are_safe_cores}
-use Rattle.med_query.specs.Form.{Form, form_of}
-use Rattle.fdw_api.specs.Kinds.{kinds_of}
-use Rattle.fdw_api.specs.State.{BoxState}
-use Rattle.fdw_api.specs.Sound.{IsTableOf}
+use Rattle.med_syntax.specs.Prelude.{EntryTree, SelectTree, StatementTree, select, Name}
+use Rattle.med_query.specs.Prelude.{are_safe_cores, Form, form_of}
+use Rattle.fdw_api.specs.Prelude.{kinds_of, BoxState, IsTableOf}
 use Rattle.med_binder.specs.Place.{Place, entry_place as place_of}
-use Rattle.bind_names.specs.Meaning.{meant}
-use Rattle.bind_names.specs.Naming.{NameCauses, entry_causes, entered_causes, asked_causes, select_name_causes, once_known}
-use Rattle.bind_names.specs.Scope.{TableShape, Scope, place_named, entry_place, entry_columns, entry_shape, query_entries, query_scope}
+use Rattle.bind_names.specs.Prelude.{meant, NameCauses, entry_causes, entered_causes, asked_causes, select_name_causes, once_known, TableShape, Scope, place_named, entry_place, entry_columns, entry_shape, query_entries, query_scope}
 use Rattle.bind_types.specs.Typing.{TypeCauses}
-use Rattle.med_binder.specs.Alike.{FormAlike, kinds_among, kinds, from_kinds}
-use Rattle.med_binder.specs.Binding.{IsMeant}
-use Rattle.med_binder.specs.Counted.{FormCounts, bound_widths}
-use Rattle.med_binder.specs.Within.{FormWithin, widths, widths_of}
+use Rattle.med_binder.specs.Prelude.{FormAlike, kinds_among, kinds, from_kinds, IsMeant, FormCounts, bound_widths, FormWithin, widths, widths_of, Attached, IsPlaceOf, ArePlaces, meant_by, IsBindable, shapes}
 use Rattle.med_binder.specs.declared.bound.BoundEntry.{BoundEntry}
 use Rattle.med_binder.specs.declared.bound.BoundQuery.{BoundQuery}
-use Rattle.med_exec.specs.Counting.{BeginsScans}
-use Rattle.med_exec.specs.Slots.{BoxAt}
+use Rattle.med_exec.specs.Prelude.{BeginsScans, BoxAt, IsReady}
 use Rattle.med_catalog.specs.Objects.{TableObject, Objects, table_named}
-use Rattle.med_binder.specs.Places.{Attached, IsPlaceOf, ArePlaces}
-use Rattle.med_binder.specs.Queries.{meant_by, IsBindable}
-use Rattle.med_binder.specs.Tables.{shapes}
 use Rattle.med_binder.proofs.Rows.{columns_there}
 use Rattle.scan_loops.specs.Scans.{or_none, bound_in, bound_at}
 use Rattle.med_planner.specs.Premises.{IsOfKinds, AreOfKinds, SoundIsWide}
 use Rattle.med_exec.specs.BoundCounting.{scans_of, tables_in as tables_counted, tables_in}
-use Rattle.med_exec.specs.BoundRunning.{IsReady}
-use Rattle.med_world.specs.Counted.{ReadsTables}
-use Rattle.med_world.specs.Engine.{IsFirst}
+use Rattle.med_world.specs.Prelude.{ReadsTables, IsFirst}
 use Rattle.med_world.proofs.TargetRows.{first_from, first_table}
 use Rattle.med_statements.specs.Ready.{AreReady, IsBoundAs}
 
@@ -75,9 +61,6 @@ from_known o q none =
 
 unknown_named : (o : Objects) (e : EntryTree) → place_named (shapes o) e.table ≡ None → entry_causes (shapes o) e ≡ [] → ⊥
 unknown_named o e none h = let x : UndefinedTable ∷ [] ≡ [] = sym (ap (λ (r : Option ℕ). if is_some r then [] else UndefinedTable ∷ []) none) ∙ h in absurd cc
-
-some_same : {X : Type 0} (x y : X) → Some x ≡ Some y → x ≡ y
-some_same x y e = cc
 
 -- ---- the tables of entries
 
@@ -124,7 +107,7 @@ module _ (o : Objects) (bound : List Attached) (boxes : List (Option BoxState)) 
   entries_typed (e ∷ es) [] known h k ks at = absurd h
   entries_typed (e ∷ es) (b ∷ bs) known h zero ks at =
       let one = entry_bound e (place_of b) (left_none (entry_causes (shapes o) e) (flat_map (entry_causes (shapes o)) es) known) h.0 in
-      first_typed b bs ks (subst (λ (l : List ColType). BoxAt boxes b.source (λ s. IsTableOf s b.table.number l)) (some_same (kinds_among (entry_columns (shapes o) e)) ks at) one)
+      first_typed b bs ks (subst (λ (l : List ColType). BoxAt boxes b.source (λ s. IsTableOf s b.table.number l)) (same_Some (kinds_among (entry_columns (shapes o) e)) ks at) one)
   entries_typed (e ∷ es) (b ∷ bs) known h (suc k) ks at =
       later_typed b bs k ks (entries_typed es bs (right_none (entry_causes (shapes o) e) (flat_map (entry_causes (shapes o)) es) known) h.1 k ks at)
 

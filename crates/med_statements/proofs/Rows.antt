@@ -1,20 +1,17 @@
 -- What is written to columns is of the columns' types.
 use Rattle.std.proofs.Common.{◌≡◌, ℕ, zero, suc, true, false, ◌&&◌, Bool, if◌then◌else◌, bytes_eq, codes, arith, length, List, [], ◌∷◌, ◌++◌, map, flat_map, drop, All, Option, Some, None, option_map, slice_get, slice_index_or, refl, ap, subst}
 use Rattle.std.proofs.lemmas.List.Elements.{All-cons, All-nil, All-head, All-tail}
-use Rattle.med_value.specs.Column.{Column}
-use Rattle.med_value.specs.Datum.{Datum, NoValue, Whole, Chars, Logic, Tuple, cell}
+use Rattle.med_value.specs.Prelude.{Column, Datum, NoValue, Whole, Chars, Logic, Tuple, cell}
 use Rattle.med_value.specs.declared.value.ColType.{ColType}
 use Rattle.med_value.specs.declared.value.ColType.TheVariants.{Int, Text, Bool as Truth}
 use Rattle.med_value.specs.declared.cause.Cause.{Cause}
 use Rattle.med_value.specs.declared.cause.Cause.TheVariants.{DatatypeMismatch}
-use Rattle.med_syntax.specs.Tree.{Name}
-use Rattle.med_syntax.specs.ExprTree.{ExprTree, ExprTrees}
+use Rattle.med_syntax.specs.Prelude.{Name, ExprTree, ExprTrees}
 use Rattle.med_syntax.specs.ExprTree as w
 use Rattle.med_syntax.specs.declared.expr.Joint.{Joint}
 use Rattle.med_syntax.specs.declared.expr.Joint.TheVariants.{Or, And}
 use Rattle.tri_expr.specs.declared.expr.SetFunction.{SetFunction}
-use Rattle.tri_expr.specs.Outcome.{Outcome, Is, value_of}
-use Rattle.tri_expr.specs.Tree.{Tree, Trees, literal, count_rows, none, part}
+use Rattle.tri_expr.specs.Prelude.{Outcome, Is, value_of, Tree, Trees, literal, count_rows, none, part}
 use Rattle.fdw_api.specs.Scan.{has_kind, is_clean, row_fits}
 use Rattle.med_write.specs.Writing.{outcome_on, outcomes_on, value_for, new_cells, cell_after, cells_after}
 use Rattle.bind_names.specs.Scope.{Scope}

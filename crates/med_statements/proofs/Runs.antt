@@ -1,43 +1,30 @@
 -- A bound write that is done, or refused: over all that binding said of it.
 use Rattle.std.proofs.Common.{◌≡◌, ◌∙◌, ℕ, Result, Ok, Err, IfOk, IfErr, Bool, true, false, List, [], ◌∷◌, Option, None, map, refl, ap, sym, subst}
 use Rattle.std.proofs.lemmas.Bool.{false≢true}
-use Rattle.med_value.specs.Column.{Column}
-use Rattle.med_value.specs.Datum.{Tuple}
+use Rattle.med_value.specs.Prelude.{Column, Tuple}
 use Rattle.med_value.specs.declared.cause.Cause.{Cause}
 use Rattle.med_value.specs.declared.cause.Cause.TheVariants.{LimitExceeded, SourceFault}
 use Rattle.med_value.specs.declared.value.ColType.{ColType}
-use Rattle.med_syntax.specs.Tree.{Name}
-use Rattle.med_syntax.specs.WriteTree.{GivenTree, values, rows_of, WriteTree, insert, update, delete}
+use Rattle.med_syntax.specs.Prelude.{Name, GivenTree, values, rows_of, WriteTree, insert, update, delete}
 use Rattle.fdw_api.specs.State.{BoxState}
 use Rattle.fdw_api.specs.declared.interface.Fault.{Fault}
-use Rattle.med_binder.specs.Place.{entry_place}
-use Rattle.med_exec.specs.Slots.{BoxAt, ChangesAt}
-use Rattle.med_exec.specs.Running.{AllServed, HonestOver}
+use Rattle.med_binder.specs.Prelude.{entry_place, Attached, meant_by, shapes, IsMeant}
+use Rattle.med_exec.specs.Prelude.{BoxAt, ChangesAt, AllServed, HonestOver, IsTypedWrite, CanWrite, Writes, RefusesWrite, kinds_written, answer_fits}
 use Rattle.med_exec.proofs.Served.{box_inj}
 use Rattle.med_catalog.specs.Objects.{Objects}
 use Rattle.bind_names.specs.Meaning.{Meant}
-use Rattle.med_binder.specs.Places.{Attached}
-use Rattle.med_binder.specs.Queries.{meant_by}
-use Rattle.med_binder.specs.Tables.{shapes}
-use Rattle.med_binder.specs.Binding.{IsMeant}
 use Rattle.med_binder.specs.declared.bound.BoundQuery.{BoundQuery}
 use Rattle.med_write.specs.declared.write.WrittenColumn.{WrittenColumn}
 use Rattle.med_query.specs.Form.{form_of as query_form}
 use Rattle.med_write.specs.Form.{WriteForm, insert_form, answer_form, form_of}
-use Rattle.med_exec.specs.Writing.{IsTypedWrite, CanWrite, Writes, RefusesWrite}
 use Rattle.bind_write.specs.Meaning.{target_of, columns_in, written_column, places_meant, given_meant, write_meant}
 use Rattle.bind_types.specs.TreeTypes.{column_kinds}
 use Rattle.bind_write.specs.declared.bound.TableWrite.{TableWrite}
 use Rattle.bind_write.specs.Binding.{IsBindable, IsQueryOf, IsGivenQuery as IsBoundGiven, IsMeantWrite}
-use Rattle.med_world.specs.Fetching.{cause_of}
-use Rattle.sql_meaning.specs.Causes.{query_of}
-use Rattle.sql_meaning.specs.Sizes.{is_large_form}
-use Rattle.med_world.specs.Counted.{ReadsTables}
-use Rattle.med_world.specs.Starting.{RunFails}
-use Rattle.med_world.specs.Selecting.{AnswersOver}
+use Rattle.med_world.specs.Prelude.{cause_of, ReadsTables, RunFails, AnswersOver}
+use Rattle.sql_meaning.specs.Prelude.{query_of, is_large_form}
 use Rattle.med_world.specs.Writing.{GivesAnswer, FailsQuery, IsUntyped, GivesRows, IsGiven, IsTargetAt, columns_for, form_for, DoesWrite, WritesRows, WriteFails, too_many, query_fails, box_refuses, rows_untyped}
 use Rattle.med_statements.specs.Typed.{IsClean}
-use Rattle.med_exec.specs.Fitting.{kinds_written, answer_fits}
 use Rattle.med_statements.specs.ReadyWrites.{IsReady, IsUnread}
 use Rattle.med_statements.proofs.CanWrites.{can_write}
 use Rattle.med_statements.proofs.Served.{ready_served, unread_served}

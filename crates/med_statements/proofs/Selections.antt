@@ -2,42 +2,30 @@
 use Rattle.std.proofs.Common.{◌≡◌, ℕ, true, false, string_bytes, List, [], ◌∷◌, Option, Some, None, map, length, refl, sym, ap, ◌∙◌, subst}
 use Rattle.std.proofs.lemmas.List.{length-map}
 use Rattle.std.proofs.lemmas.List.Sorted.{IsPermutation-sym}
-use Rattle.med_value.specs.Datum.{Tuple}
+use Rattle.med_value.specs.Prelude.{Tuple, phase_of}
 use Rattle.med_value.specs.declared.cause.Cause.{Cause}
 use Rattle.med_value.specs.declared.cause.Cause.TheVariants.{LimitExceeded}
 use Rattle.tri_expr.specs.declared.expr.Expr.{Expr}
 use Rattle.med_query.specs.declared.select.Grouping.{Grouping}
 use Rattle.med_query.specs.declared.select.SelectCore.{SelectCore}
 use Rattle.med_query.specs.declared.select.Select.{Select}
-use Rattle.med_query.specs.Form.{core_form, core_by, query_by, form_of}
+use Rattle.med_query.specs.Prelude.{core_form, core_by, query_by, form_of, AllIgnoreOrder, IsSteadyCore, AreSteady, IsSteady, AnswersIgnoreOrder, Query, Tables, SameRows, senses, having_of, IsShownCause}
 use Rattle.med_query.specs.Select.{query_of as written_query, core_of, groups_of}
-use Rattle.med_query.specs.Laws.{AllIgnoreOrder, IsSteadyCore, AreSteady, IsSteady, AnswersIgnoreOrder}
-use Rattle.med_query.specs.Query.{Query, Tables, SameRows, senses, having_of}
-use Rattle.fdw_api.specs.Kinds.{is_of_run}
-use Rattle.fdw_api.specs.State.{BoxState}
-use Rattle.med_value.specs.Causes.{phase_of}
+use Rattle.fdw_api.specs.Prelude.{is_of_run, BoxState}
 use Rattle.fdw_api.specs.declared.interface.Fault.{Fault}
-use Rattle.med_binder.specs.Place.{Place, entry_place}
-use Rattle.med_query.specs.Causes.{IsShownCause}
+use Rattle.med_binder.specs.Prelude.{Place, entry_place, IsMeant, meant_by, IsBindable, Attached, ArePlaces}
 use Rattle.med_planner.specs.Planned.{entry_rows}
 use Rattle.med_exec.specs.Running.{AllServed, Stops, lacks_memory, source_fails, numbers_end, query_shows}
-use Rattle.med_syntax.specs.QueryTree.{SelectTree}
+use Rattle.med_syntax.specs.Prelude.{SelectTree, Name}
 use Rattle.bind_names.specs.Meaning.{Meant}
-use Rattle.med_binder.specs.Binding.{IsMeant}
 use Rattle.med_binder.specs.declared.bound.BoundQuery.{BoundQuery}
 use Rattle.med_binder.specs.declared.bound.BoundEntry.{BoundEntry}
-use Rattle.sql_meaning.specs.Causes.{query_of}
-use Rattle.sql_meaning.specs.Sizes.{is_large_form}
-use Rattle.med_syntax.specs.Tree.{Name}
+use Rattle.sql_meaning.specs.Prelude.{query_of, is_large_form}
 use Rattle.med_catalog.specs.Objects.{Objects}
-use Rattle.med_binder.specs.Queries.{meant_by, IsBindable}
-use Rattle.med_binder.specs.Places.{Attached, ArePlaces}
-use Rattle.med_world.specs.Fetching.{cause_of}
+use Rattle.med_world.specs.Prelude.{cause_of, ReadsTables}
 use Rattle.med_world.specs.Selecting.{AnswersOver, Selects, SelectFails, run_fails, too_many}
-use Rattle.med_world.specs.Counted.{ReadsTables}
 use Rattle.med_world.specs.Starting.{RunFails, no_memory, box_fails, numbers_out, shows_cause}
-use Rattle.med_exec.specs.BoundPulling.{PullsRows}
-use Rattle.med_exec.specs.BoundRunning.{RunAnswers}
+use Rattle.med_exec.specs.Prelude.{PullsRows, RunAnswers}
 
 -- ---- what was bound
 

@@ -3,10 +3,7 @@ use Rattle.std.proofs.Common.{◌≡◌, ◌∙◌, ℕ, List, Option, Some, sli
 use Rattle.std.specs.List.{list_all, IsDistinct}
 use Rattle.std.specs.FinMap as finmap
 use Rattle.med_value.specs.declared.value.ColType.{ColType}
-use Rattle.fdw_api.specs.Kinds.{kinds_of}
-use Rattle.fdw_api.specs.Scan.{TableRow, row_fits}
-use Rattle.fdw_api.specs.State.{BoxState, BoxTable, is_honest, table_of}
-use Rattle.fdw_api.specs.Sound.{IsTableOf, IsSoundBox}
+use Rattle.fdw_api.specs.Prelude.{kinds_of, TableRow, row_fits, BoxState, BoxTable, is_honest, table_of, IsTableOf, IsSoundBox}
 use Rattle.med_exec.specs.Running.{AllServed, none_held}
 use Rattle.med_exec.proofs.Served.{ServedAlone, after_service, before_service, box_inj}
 use Rattle.med_syntax.specs.WriteTree.{WriteTree}

@@ -6,11 +6,9 @@ use Rattle.med_value.specs.Datum.{Chars}
 use Rattle.med_lexer.specs.declared.Mark.{Mark}
 use Rattle.med_lexer.specs.declared.Mark.TheVariants as marks
 use Rattle.med_lexer.specs.Lexemes.{is_text, Every, Shape, word, quoted, literal, number, mark, Spells, Lexeme, Lexes}
-use Rattle.med_syntax.specs.Terminal.{Terminal, mark_terminal, plain_word, word_terminal, terminal_of, IsTerminal, AreTerminals}
-use Rattle.med_syntax.specs.Terminal as t
+use Rattle.med_syntax.specs.Prelude.{Terminal, mark_terminal, plain_word, word_terminal, terminal_of, IsTerminal, AreTerminals, shapes, IsWord, AreWords}
 use Rattle.med_syntax.specs.Words.{is_reserved}
-use Rattle.med_syntax.specs.Shapes.{shapes}
-use Rattle.med_syntax.specs.QueryTerminals.{IsWord, AreWords}
+use Rattle.med_syntax.specs.Terminal as t
 use Rattle.fdw_api.specs.Scan.{is_clean}
 
 abbrev pub IsCleanText : List ℕ → Type 0

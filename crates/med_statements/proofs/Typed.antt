@@ -4,37 +4,24 @@ use Rattle.std.specs.List.{list_all}
 use Rattle.std.proofs.lemmas.List.Folds.{list_all-map}
 use Rattle.std.proofs.lemmas.List.Sums.{AllPass-from_list_all}
 use Rattle.std.proofs.lemmas.List.Sorted.{IsPermutation-refl}
-use Rattle.med_value.specs.Column.{Column}
-use Rattle.med_value.specs.Datum.{Tuple}
+use Rattle.std.proofs.lemmas.Option.{same_Some}
+use Rattle.med_value.specs.Prelude.{Column, Tuple}
 use Rattle.med_value.specs.declared.cause.Cause.{Cause}
 use Rattle.med_value.specs.declared.cause.Cause.TheVariants.{UndefinedTable}
 use Rattle.med_value.specs.declared.value.ColType.{ColType}
-use Rattle.med_syntax.specs.Tree.{Name}
-use Rattle.med_syntax.specs.QueryTree.{EntryTree, SelectTree}
-use Rattle.med_syntax.specs.WriteTree.{GivenTree, values, rows_of, InsertTree, WriteTree, insert, update, delete}
-use Rattle.med_query.specs.Query.{Tables, IsAnswer}
-use Rattle.med_query.specs.Select.{are_safe_cores}
-use Rattle.fdw_api.specs.Kinds.{kinds_of}
-use Rattle.fdw_api.specs.Scan.{TableRow, row_fits}
+use Rattle.med_syntax.specs.Prelude.{Name, EntryTree, SelectTree, GivenTree, values, rows_of, InsertTree, WriteTree, insert, update, delete}
+use Rattle.med_query.specs.Prelude.{Tables, IsAnswer, are_safe_cores}
+use Rattle.fdw_api.specs.Prelude.{kinds_of, TableRow, row_fits, IsTableOf}
 use Rattle.fdw_api.specs.State.{BoxState, rows_of as rows_in_box}
-use Rattle.fdw_api.specs.Sound.{IsTableOf}
 use Rattle.med_binder.specs.Place.{Place, entry_place as place_of}
 use Rattle.med_planner.specs.Planned.{rows_shown, entry_rows}
-use Rattle.med_exec.specs.Running.{HonestAt, HonestOver}
-use Rattle.med_exec.specs.Slots.{BoxAt}
+use Rattle.med_exec.specs.Prelude.{HonestAt, HonestOver, BoxAt, IsTypedWrite}
 use Rattle.med_catalog.specs.Objects.{TableObject, Objects, table_named}
-use Rattle.bind_names.specs.Scope.{place_named, entry_place, entry_columns, query_entries, query_scope}
-use Rattle.bind_names.specs.Naming.{entry_causes, entered_causes, asked_causes, select_name_causes, once_known}
+use Rattle.bind_names.specs.Prelude.{place_named, entry_place, entry_columns, query_entries, query_scope, entry_causes, entered_causes, asked_causes, select_name_causes, once_known}
 use Rattle.bind_types.specs.Typing.{select_type_causes}
-use Rattle.med_binder.specs.Places.{Attached, IsPlaceOf, ArePlaces}
-use Rattle.med_binder.specs.Queries.{meant_by}
-use Rattle.med_binder.specs.Tables.{shapes}
+use Rattle.med_binder.specs.Prelude.{Attached, IsPlaceOf, ArePlaces, meant_by, shapes, IsMeant, bound_widths, widths}
 use Rattle.med_binder.proofs.Rows.{columns_there}
-use Rattle.med_binder.specs.Binding.{IsMeant}
-use Rattle.med_binder.specs.Counted.{bound_widths}
-use Rattle.med_binder.specs.Within.{widths}
 use Rattle.med_binder.specs.declared.bound.BoundQuery.{BoundQuery}
-use Rattle.med_exec.specs.Writing.{IsTypedWrite}
 use Rattle.bind_write.specs.Meaning.{target_of, columns_in, write_meant}
 use Rattle.bind_write.specs.Naming.{target_causes, named_causes, names_of}
 use Rattle.bind_types.specs.TreeTypes.{column_kinds}
@@ -43,8 +30,7 @@ use Rattle.bind_write.proofs.Lists.{empty_by, none_in}
 use Rattle.bind_write.specs.Binding.{IsBindable, IsQueryOf, IsGivenQuery as IsBoundGiven}
 use Rattle.med_statements.specs.Typed.{IsClean, AreTyped, IsAnswered, AreGivenRows}
 use Rattle.sql_meaning.specs.Causes.{query_of, OfGiven, OfQuery}
-use Rattle.med_world.specs.Engine.{IsFirst}
-use Rattle.med_world.specs.Selecting.{AnswersOver}
+use Rattle.med_world.specs.Prelude.{IsFirst, AnswersOver}
 use Rattle.med_world.proofs.TargetRows.{first_from, first_table}
 use Rattle.med_statements.specs.Ready.{IsBoundAs}
 use Rattle.med_statements.specs.ReadyWrites.{IsReady}
@@ -141,9 +127,6 @@ bound_as o user bound t b is h = record {
 
 -- ---- the rows of its entries
 
-some_same : {X : Type 0} (a b : X) → Some a ≡ Some b → a ≡ b
-some_same a b e = cc
-
 abbrev AllFit : List ColType → List Tuple → Type 0
 AllFit kinds rows = All (λ r. row_fits kinds r ≡ true) rows
 
@@ -187,7 +170,7 @@ entries_typed : (o : Objects) (bound : List Attached) (boxes : List (Option BoxS
 entries_typed o bound boxes ready [] ps honest known h number e at = absurd cc
 entries_typed o bound boxes ready (x ∷ es) [] honest known h number e at = absurd h
 entries_typed o bound boxes ready (x ∷ es) (p ∷ ps) honest known h zero e at =
-    subst (λ (y : EntryTree). AllFit (column_kinds (entry_columns (shapes o) y)) (rows_shown (slice_get boxes p.source) p.table)) (some_same x e at)
+    subst (λ (y : EntryTree). AllFit (column_kinds (entry_columns (shapes o) y)) (rows_shown (slice_get boxes p.source) p.table)) (same_Some x e at)
     (entry_typed o bound boxes x p ready (honest p.source (zero, omega arith, refl)) (left_none (entry_causes (shapes o) x) (flat_map (entry_causes (shapes o)) es) known) h.0)
 entries_typed o bound boxes ready (x ∷ es) (p ∷ ps) honest known h (suc number) e at =
     entries_typed o bound boxes ready es ps (λ slot has. let n = has.1 in honest slot (suc has.0, omega (arith, n), has.2)) (right_none (entry_causes (shapes o) x) (flat_map (entry_causes (shapes o)) es) known) h.1 number e at

@@ -3,8 +3,8 @@ use Rattle.std.proofs.Common.{◌≡◌, ℕ, zero, suc, ◌^◌, nat_lt, ◌==�
 use Rattle.std.specs.List.{list_all, list_any}
 use Rattle.std.specs.Prelude.{neg_ℤ, int_div, int_rem, ℤ, ◌+ℤ◌, ◌-ℤ◌, ◌*ℤ◌}
 use Rattle.std.specs.Ordering.{is_lt}
-use Rattle.med_value.specs.Datum.{Datum, NoValue, Whole, Chars, Logic, Tuple, cell}
-use Rattle.med_value.specs.Order.{datum_cmp, is_missing}
+use Rattle.std.proofs.lemmas.Bool.{and_parts}
+use Rattle.med_value.specs.Prelude.{Datum, NoValue, Whole, Chars, Logic, Tuple, cell, datum_cmp, is_missing}
 use Rattle.med_value.specs.declared.value.ColType.{ColType}
 use Rattle.med_value.specs.declared.value.ColType.TheVariants.{Int, Text, Bool as Truth}
 use Rattle.med_value.specs.declared.order.Comparison.{Comparison}
@@ -15,11 +15,7 @@ use Rattle.tri_expr.specs.declared.expr.Fault.{Fault}
 use Rattle.tri_expr.specs.declared.expr.Fault.TheVariants.{Range, Zero}
 use Rattle.tri_expr.specs.declared.expr.SetFunction.{SetFunction}
 use Rattle.tri_expr.specs.declared.expr.SetFunction.TheVariants.{Count, Sum, Min, Max}
-use Rattle.tri_expr.specs.Aggregate.{number, total, aggregated, lesser, greater}
-use Rattle.tri_expr.specs.Lists.{gather}
-use Rattle.tri_expr.specs.Outcome.{Outcome, Is, Fails, value_of, truth, strict, strict_two, compared, compared_values, computed_numbers, computed_values, ranged, size_of, is_zero, negated_value, opposite_value, turned, is_truth, first_fault, or_else, settled, over, passes}
-use Rattle.tri_expr.specs.Meaning.{OnClass, has_cell, shared, argument, liked, tree_meaning, tree_meanings}
-use Rattle.tri_expr.specs.Tree.{Tree, column, parameter, literal, compare, compute, negate, all_of, some_of, opposite, asks, between, within, matches, parenthesised, count_rows, aggregate}
+use Rattle.tri_expr.specs.Prelude.{number, total, aggregated, lesser, greater, gather, Outcome, Is, Fails, value_of, truth, strict, strict_two, compared, compared_values, computed_numbers, computed_values, ranged, size_of, is_zero, negated_value, opposite_value, turned, is_truth, first_fault, or_else, settled, over, passes, OnClass, has_cell, shared, argument, liked, tree_meaning, tree_meanings, Tree, column, parameter, literal, compare, compute, negate, all_of, some_of, opposite, asks, between, within, matches, parenthesised, count_rows, aggregate}
 use Rattle.fdw_api.specs.Scan.{has_kind, is_clean, row_fits, cell_fits}
 use Rattle.bind_types.specs.TreeTypes.{datum_type, set_type, tree_type}
 
@@ -32,11 +28,6 @@ null_fits None = refl
 null_fits (Some Int) = refl
 null_fits (Some Text) = refl
 null_fits (Some Truth) = refl
-
-pub both : (a b : Bool) → (a && b) ≡ true → (a ≡ true) × (b ≡ true)
-both true true h = (refl, refl)
-both true false h = absurd cc
-both false b h = absurd cc
 
 pub three : (a b c : Bool) → (a && b && c) ≡ true → ((a && b) ≡ true) × (c ≡ true)
 three true true true h = (refl, refl)
@@ -67,7 +58,7 @@ shared_typed : (kinds : List ColType) (rows : List Tuple) (at : ℕ) → list_al
 shared_typed kinds [] at h = null_fits (slice_get kinds at)
 shared_typed kinds (r ∷ rs) at h =
     value_by (slice_get kinds at) (list_all (has_cell at (cell r at)) rs) (cell r at) NoValue
-    (cell_typed kinds r at (both (row_fits kinds r) (list_all (row_fits kinds) rs) h).0) (null_fits (slice_get kinds at))
+    (cell_typed kinds r at (and_parts (row_fits kinds r) (list_all (row_fits kinds) rs) h).0) (null_fits (slice_get kinds at))
 
 -- ---- the rules
 
@@ -185,7 +176,7 @@ argument_fits : (t : Option ColType) (kinds : List ColType) (f : OnClass) → ((
     → (rows : List Tuple) → list_all (row_fits kinds) rows ≡ true → EachFits t (argument f rows)
 argument_fits t kinds f h [] k = tt
 argument_fits t kinds f h (r ∷ rs) k =
-    let parts = both (row_fits kinds r) (list_all (row_fits kinds) rs) k in
+    let parts = and_parts (row_fits kinds r) (list_all (row_fits kinds) rs) k in
     (h (r ∷ []) (rw parts.0 refl), argument_fits t kinds f h rs parts.1)
 
 -- ---- an expression

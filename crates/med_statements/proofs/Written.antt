@@ -2,22 +2,16 @@
 use Rattle.std.proofs.Common.{◌≡◌, true, false, ◌&&◌, Bool, List, [], ◌∷◌, map, filter, flat_map, All, Option, Some, option_map, bytes_eq, if◌then◌else◌, refl}
 use Rattle.std.specs.List.{list_all}
 use Rattle.std.proofs.lemmas.List.Elements.{All-head, All-tail}
-use Rattle.med_value.specs.Column.{Column}
-use Rattle.med_value.specs.Datum.{Tuple}
+use Rattle.std.proofs.lemmas.Bool.{and_parts}
+use Rattle.med_value.specs.Prelude.{Column, Tuple}
 use Rattle.med_value.specs.declared.cause.Cause.{Cause}
-use Rattle.med_syntax.specs.Tree.{Name}
-use Rattle.med_syntax.specs.ExprTree.{ExprTree}
-use Rattle.med_syntax.specs.QueryTree.{CoreTree, cores_of}
-use Rattle.tri_expr.specs.Meaning.{means}
-use Rattle.tri_expr.specs.Outcome.{Outcome, value_of}
-use Rattle.tri_expr.specs.Tree.{Tree}
+use Rattle.med_syntax.specs.Prelude.{Name, ExprTree, CoreTree, cores_of, GivenTree, values, rows_of, InsertTree, SetTree, WriteTree, insert, update, delete}
+use Rattle.tri_expr.specs.Prelude.{means, Outcome, value_of, Tree}
 use Rattle.med_query.specs.Query.{Tables, keeps}
 use Rattle.fdw_api.specs.Scan.{row_fits}
 use Rattle.med_write.specs.Form.{update_form}
 use Rattle.med_write.specs.Writing.{outcomes_of, outcomes_on, new_cells, rows_given, row_made, rows_chosen}
-use Rattle.med_syntax.specs.WriteTree.{GivenTree, values, rows_of, InsertTree, SetTree, WriteTree, insert, update, delete}
-use Rattle.bind_names.specs.Scope.{TableShape, Scope}
-use Rattle.bind_names.specs.Meaning.{resolved, conditions_of}
+use Rattle.bind_names.specs.Prelude.{TableShape, Scope, resolved, conditions_of}
 use Rattle.bind_types.specs.TreeTypes.{column_kinds}
 use Rattle.bind_types.specs.Typing.{core_types, answer_types, select_type_causes}
 use Rattle.med_catalog.specs.Objects.{Objects}
@@ -28,7 +22,6 @@ use Rattle.bind_write.specs.Naming.{set_values}
 use Rattle.bind_write.specs.Typing.{WriteTypes, types_of, asked_types, cells_causes, set_types, row_types, row_fit_causes, length_causes, row_type_causes, rows_fit_causes, given_type_causes}
 use Rattle.med_exec.specs.Writing.{IsTypedWrite}
 use Rattle.med_statements.specs.Typed.{texts_in, given_texts, IsClean, IsAnswered, AreGivenRows}
-use Rattle.med_statements.proofs.Values.{both}
 use Rattle.med_statements.proofs.Rows.{IsCleanText, IsCleanCell, clean_tree, inserted_fits, values_of_types, made_fits, all_left, all_right}
 use Rattle.med_statements.proofs.Answers.{Lets, answer_is}
 
@@ -93,13 +86,13 @@ kept_by p q x xs false e h k = rw e k
 
 chosen_fit : {X : Type 0} (p q : X → Bool) (xs : List X) → list_all p xs ≡ true → list_all p (filter q xs) ≡ true
 chosen_fit p q [] h = refl
-chosen_fit p q (x ∷ xs) h = let parts = both (p x) (list_all p xs) h in kept_by p q x xs (q x) refl parts.0 (chosen_fit p q xs parts.1)
+chosen_fit p q (x ∷ xs) h = let parts = and_parts (p x) (list_all p xs) h in kept_by p q x xs (q x) refl parts.0 (chosen_fit p q xs parts.1)
 
 each_made : (columns : List Column) (f : Column → Option Tree) → ((c : Column) → IsCleanCell (f c)) → cells_causes columns (set_types columns (map f columns)) ≡ []
     → (rows : List Tuple) → list_all (row_fits (column_kinds columns)) rows ≡ true → WrittenFit columns (map (row_made (map f columns)) rows)
 each_made columns f clean none [] h = refl
 each_made columns f clean none (r ∷ rs) h =
-    let parts = both (row_fits (column_kinds columns) r) (list_all (row_fits (column_kinds columns)) rs) h in
+    let parts = and_parts (row_fits (column_kinds columns) r) (list_all (row_fits (column_kinds columns)) rs) h in
     one_more (row_fits (column_kinds columns) (map value_of (row_made (map f columns) r))) (list_all (λ os. row_fits (column_kinds columns) (map value_of os)) (map (row_made (map f columns)) rs))
     (made_fits f clean columns (column_kinds columns) r 0 parts.0 refl none) (each_made columns f clean none rs parts.1)
 

@@ -3,8 +3,7 @@ use Rattle.std.specs.Prelude.{◌≡◌, Bool, true, false, ℕ, List, ◌++◌,
 use Rattle.med_value.specs.Datum.{tuple}
 use Rattle.med_value.specs.declared.cause.Cause.TheVariants.{OutOfMemory}
 use Rattle.med_syntax.specs.DdlView.{ddl_tree}
-use Rattle.sql_meaning.specs.Replies.{Reply, done, answered, refused, reply_text, rows_tag}
-use Rattle.sql_meaning.specs.Steps.{ddl_tag}
+use Rattle.sql_meaning.specs.Prelude.{Reply, done, answered, refused, reply_text, rows_tag, ddl_tag}
 use Rattle.med_statements.specs.declared.replies.RowsWord.{RowsWord}
 use Rattle.med_statements.specs.declared.replies.RowsWord.TheVariants.{Insert, Update, Delete}
 use Rattle.med_statements.specs.declared.replies.Outcome.{Outcome}

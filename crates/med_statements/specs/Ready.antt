@@ -3,27 +3,15 @@ use Rattle.std.specs.Prelude.{◌≡◌, ℕ, true, List, map, Option, Some, sli
 use Rattle.med_value.specs.declared.cause.Cause.{Cause}
 use Rattle.med_syntax.specs.QueryTree.{SelectTree, select}
 use Rattle.med_query.specs.Select.{are_safe_cores}
-use Rattle.fdw_api.specs.Kinds.{kinds_of}
-use Rattle.fdw_api.specs.State.{BoxState}
-use Rattle.fdw_api.specs.Sound.{IsTableOf, IsSoundBox}
-use Rattle.med_binder.specs.Place.{entry_place}
-use Rattle.bind_names.specs.Naming.{NameCauses}
-use Rattle.bind_names.specs.Scope.{query_scope}
+use Rattle.fdw_api.specs.Prelude.{kinds_of, BoxState, IsTableOf, IsSoundBox}
+use Rattle.med_binder.specs.Prelude.{entry_place, IsMeant, bound_widths, widths, Attached, ArePlaces, meant_by, shapes}
+use Rattle.bind_names.specs.Prelude.{NameCauses, query_scope}
 use Rattle.bind_types.specs.Typing.{TypeCauses}
-use Rattle.med_binder.specs.Binding.{IsMeant}
-use Rattle.med_binder.specs.Counted.{bound_widths}
-use Rattle.med_binder.specs.Within.{widths}
 use Rattle.med_binder.specs.declared.bound.BoundQuery.{BoundQuery}
-use Rattle.med_exec.specs.Counting.{BeginsScans}
-use Rattle.med_exec.specs.Slots.{BoxAt}
+use Rattle.med_exec.specs.Prelude.{BeginsScans, BoxAt, IsReady}
 use Rattle.med_catalog.specs.Objects.{TableObject, Objects}
-use Rattle.med_binder.specs.Places.{Attached, ArePlaces}
-use Rattle.med_binder.specs.Queries.{meant_by}
-use Rattle.med_binder.specs.Tables.{shapes}
 use Rattle.med_exec.specs.BoundCounting.{scans_of}
-use Rattle.med_exec.specs.BoundRunning.{IsReady}
-use Rattle.med_world.specs.Counted.{ReadsTables}
-use Rattle.med_world.specs.Engine.{EachBox}
+use Rattle.med_world.specs.Prelude.{ReadsTables, EachBox}
 
 -- each box is sound, and each table of the catalogue is bound in the box of its place, with its columns' types
 pub record AreReady (o : Objects) (bound : List Attached) (boxes : List (Option BoxState)) : Type 0 where

@@ -1,15 +1,11 @@
 -- When a write may be asked of the boxes of an engine.
 use Rattle.std.specs.Prelude.{◌≡◌, ℕ, List, Option, Some, slice_get}
-use Rattle.fdw_api.specs.Kinds.{kinds_of}
-use Rattle.fdw_api.specs.State.{BoxState}
-use Rattle.fdw_api.specs.Calls.{NoScan}
-use Rattle.fdw_api.specs.Sound.{IsTableOf, IsSoundBox}
+use Rattle.fdw_api.specs.Prelude.{kinds_of, BoxState, NoScan, IsTableOf, IsSoundBox}
 use Rattle.med_exec.specs.Slots.{BoxAt}
 use Rattle.med_catalog.specs.Objects.{TableObject, Objects}
 use Rattle.med_binder.specs.Places.{Attached}
 use Rattle.med_syntax.specs.WriteTree.{WriteTree}
-use Rattle.med_world.specs.Engine.{EachBox, IsUnstaged}
-use Rattle.med_world.specs.Writing.{IsTargetAt}
+use Rattle.med_world.specs.Prelude.{EachBox, IsUnstaged, IsTargetAt}
 
 -- nothing is staged and each box is sound; and each table of the catalogue is bound, with its columns' types
 pub record IsReady (o : Objects) (bound : List Attached) (boxes : List (Option BoxState)) : Type 0 where

@@ -1,14 +1,11 @@
 -- What is known of a write whose rows are of their columns' types: its texts have no U+0000, and the tables that it reads are typed.
 use Rattle.std.specs.Prelude.{◌≡◌, ℕ, true, List, [], ◌∷◌, ◌++◌, flat_map, All, Some, slice_get}
 use Rattle.med_value.specs.Datum.{Chars, Tuple}
-use Rattle.med_syntax.specs.ExprTree.{ExprTree, ExprTrees, text, call, paren, none, more}
+use Rattle.med_syntax.specs.Prelude.{ExprTree, ExprTrees, text, call, paren, none, more, GivenTree, values, rows_of, WriteTree, insert, update, delete}
 use Rattle.med_syntax.specs.QueryTree.{ItemTree, all, all_of, value, EntryTree, CoreTree, SelectTree, cores_of}
-use Rattle.med_query.specs.Form.{query_by}
-use Rattle.med_query.specs.Query.{Tables, IsAnswer}
+use Rattle.med_query.specs.Prelude.{query_by, Tables, IsAnswer}
 use Rattle.fdw_api.specs.Scan.{is_clean, row_fits}
-use Rattle.med_syntax.specs.WriteTree.{GivenTree, values, rows_of, WriteTree, insert, update, delete}
-use Rattle.bind_names.specs.Scope.{TableShape, query_entries, entry_columns}
-use Rattle.bind_names.specs.Meaning.{meant_in}
+use Rattle.bind_names.specs.Prelude.{TableShape, query_entries, entry_columns, meant_in}
 use Rattle.bind_write.specs.Naming.{set_values}
 use Rattle.bind_types.specs.TreeTypes.{column_kinds}
 

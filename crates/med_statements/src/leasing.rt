@@ -1,8 +1,7 @@
 //! The tables that a query reads, by their names.
 ghost use Rattle.std.specs.Prelude.{◌≡◌, map, IfOk, IfErr, string_bytes};
 ghost use Rattle.med_value.specs.declared.cause.Cause.TheVariants.{OutOfMemory};
-ghost use Rattle.med_syntax.specs.QueryTree.{EntryTree};
-ghost use Rattle.med_syntax.specs.QueryView.{statement_tree};
+ghost use Rattle.med_syntax.specs.Prelude.{EntryTree, statement_tree};
 ghost use Rattle.bind_names.specs.Seen.{seen_entry};
 ghost use Rattle.med_binder.specs.Looked.{query_in};
 ghost use Rattle.med_world.specs.Starting.{leases_of};

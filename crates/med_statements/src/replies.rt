@@ -1,13 +1,10 @@
 //! Replies to requests, and their text.
 ghost use Rattle.std.specs.Prelude.{◌≡◌, ◌+◌, ◌≤◌, ◌++◌, ◌∷◌, ℕ, flat_map, length, map, OnOk, string_bytes, vec_len, vec_capacity, codes, decimal};
-ghost use Rattle.med_value.specs.Datum.{tuple};
-ghost use Rattle.med_value.specs.Text.{escaped_text, HasGrown};
-ghost use Rattle.sql_meaning.specs.Replies.{reply_text, done, answered, refused, header, line, row_line, tag_line, rows_tag};
-ghost use Rattle.med_syntax.specs.DdlView.{ddl_tree};
+ghost use Rattle.med_value.specs.Prelude.{tuple, escaped_text, HasGrown};
+ghost use Rattle.sql_meaning.specs.Prelude.{reply_text, done, answered, refused, header, line, row_line, tag_line, rows_tag, ddl_tag, write_tag};
+ghost use Rattle.med_syntax.specs.Prelude.{ddl_tree, write_tree};
 ghost use Rattle.med_statements.specs.Outcomes.{RepliesRows, TellsReply, reply_of, word_text};
-ghost use Rattle.sql_meaning.specs.Steps.{ddl_tag, write_tag};
 ghost use Rattle.bind_write.specs.Meaning.{target_of};
-ghost use Rattle.med_syntax.specs.WriteView.{write_tree};
 
 use crate::RowSet;
 use itoa::Buffer;

@@ -1,8 +1,7 @@
 //! Whether a query may fault while it gives its rows.
 ghost use Rattle.std.specs.Prelude.{◌≡◌, map, option_map};
 ghost use Rattle.std.specs.List.{list_any};
-ghost use Rattle.tri_expr.specs.Tree.{tree};
-ghost use Rattle.tri_expr.specs.TreeParts.{is_risky_tree};
+ghost use Rattle.tri_expr.specs.Prelude.{tree, is_risky_tree};
 ghost use Rattle.med_query.specs.Form.{core_form, form_of, group_form};
 ghost use Rattle.med_query.specs.Form.{is_risky_core as spec_is_risky_core, is_risky_form, group_trees};
 

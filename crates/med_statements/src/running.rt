@@ -1,7 +1,6 @@
 //! Statements that write rows: bound, and done to the box of their table.
 ghost use Rattle.std.specs.Prelude.{◌≡◌, false, length, map, IfOk, IfErr};
-ghost use Rattle.med_binder.specs.Places.{attached};
-ghost use Rattle.med_binder.specs.Tables.{AreNamedOnce};
+ghost use Rattle.med_binder.specs.Prelude.{attached, AreNamedOnce};
 ghost use Rattle.med_catalog.specs.View.{objects};
 ghost use Rattle.med_exec.specs.Slots.{states};
 ghost use Rattle.med_world.specs.Writing.{WritesRows, WriteFails};

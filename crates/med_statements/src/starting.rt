@@ -1,7 +1,5 @@
 //! Queries of cursors: bound, and begun without a row being read from their runs.
-ghost use Rattle.med_binder.specs.Looked.{query_in};
-ghost use Rattle.med_binder.specs.Places.{attached};
-ghost use Rattle.med_binder.specs.Tables.{AreNamedOnce};
+ghost use Rattle.med_binder.specs.Prelude.{query_in, attached, AreNamedOnce};
 ghost use Rattle.med_catalog.specs.View.{objects};
 ghost use Rattle.med_exec.specs.Slots.{states};
 ghost use Rattle.med_statements.specs.Ready.{AreReady};

@@ -2,9 +2,8 @@
 ghost use Rattle.std.specs.Prelude.{◌≡◌, IfOk, IfErr, map};
 ghost use Rattle.med_value.specs.Datum.{tuple};
 ghost use Rattle.fdw_api.specs.declared.interface.Fault.{Fault as Failure};
-ghost use Rattle.med_exec.specs.Slots.{states, BoxAt, ChangesAt};
+ghost use Rattle.med_exec.specs.Prelude.{states, BoxAt, ChangesAt, CanWrite, Writes, RefusesWrite};
 ghost use Rattle.med_write.specs.Form.{form_of};
-ghost use Rattle.med_exec.specs.Writing.{CanWrite, Writes, RefusesWrite};
 ghost use Rattle.med_world.specs.Fetching.{cause_of as cause_told};
 
 use crate::cause_of;

@@ -23,3 +23,4 @@ pub mod ExprWeight
 pub mod QueryTerminals
 pub mod QueryGrammar
 pub mod QueryCauses
+pub mod Prelude

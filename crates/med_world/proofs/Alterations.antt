@@ -1,18 +1,14 @@
 -- A statement on objects, done or not, leaves an engine sound; and what its calls of boxes ask holds.
 use Rattle.std.proofs.Common.{◌≡◌, ◌≢◌, ℕ, ◌⊎◌, Bool, List, [], ◌∷◌, ◌++◌, Some, Contains, slice_get, length, map, find, refl, ap, sym, ◌∙◌, subst, inl, inr, bytes_eq}
+use Rattle.std.proofs.lemmas.Option.{same_Some}
 use Rattle.med_value.specs.declared.cause.Cause.{Cause}
-use Rattle.med_syntax.specs.Tree.{Name}
-use Rattle.med_syntax.specs.DdlTree.{TableTree, DdlTree, create_wrapper, create_server, create_mapping, create_table, drop_wrapper, drop_server, drop_table, drop_mapping}
-use Rattle.fdw_api.specs.State.{BoxState, IsIdle}
-use Rattle.fdw_api.specs.Calls.{CanBind, CanUnbind, Unbinds, Refuses, RefusesBind}
-use Rattle.fdw_api.specs.Sound.{IsSoundBox}
-use Rattle.med_catalog.specs.Objects.{MappingObject, ServerObject, TableObject, Objects, server_named}
-use Rattle.med_catalog.specs.Changes.{ObjectChange, nothing, new_wrapper, new_server, new_mapping, new_table, no_wrapper, no_server, no_mapping, no_table, without, with_first, changed, IsNewTable, Asks, skips, makes}
-use Rattle.med_catalog.specs.DdlCauses.{Stands, create_table_rows}
+use Rattle.med_syntax.specs.Prelude.{Name, TableTree, DdlTree, create_wrapper, create_server, create_mapping, create_table, drop_wrapper, drop_server, drop_table, drop_mapping}
+use Rattle.fdw_api.specs.Prelude.{BoxState, IsIdle, CanBind, CanUnbind, Unbinds, Refuses, RefusesBind, IsSoundBox}
+use Rattle.med_catalog.specs.Prelude.{MappingObject, ServerObject, TableObject, Objects, server_named, ObjectChange, nothing, new_wrapper, new_server, new_mapping, new_table, no_wrapper, no_server, no_mapping, no_table, without, with_first, changed, IsNewTable, Asks, skips, makes, Stands, create_table_rows}
 use Rattle.med_catalog.specs.declared.kind.SourceKind.{SourceKind}
 use Rattle.med_world.specs.Engine.{Label, Shown, leased, AreSound, IsServerAt, IsStandingAt, TakesAs, IsSound, with_change, Alters}
 use Rattle.med_world.specs.Altering.{IsAllowed, SourcesAllow, IsAltered, NotAltered, catalog_shows, not_free, no_memory, bind_fails, bind_undone}
-use Rattle.med_world.proofs.Lists.{some_same, bytes_same, other_bytes, push_cases, one_place}
+use Rattle.med_world.proofs.Lists.{bytes_same, other_bytes, push_cases, one_place}
 use Rattle.med_world.proofs.NamedTables.{place_of, at_place, map_place, found_place, found_passes, find_first, back_first, find_fewer, back_fewer, none_left, still_found}
 use Rattle.med_world.proofs.Faring.{changes_by}
 use Rattle.med_world.proofs.ScansChanged.{catalog_scans}
@@ -66,7 +62,7 @@ sources_once o h s r a b is_s is_r same =
     let sources = map (λ (x : ServerObject). x.source) o.servers in
     let one : p.0 ≡ q.0 = one_place sources s.source p.0 q.0 h.sources_once (map_place (λ (x : ServerObject). x.source) o.servers p.0 s p.1)
     (map_place (λ (x : ServerObject). x.source) o.servers q.0 r q.1 ∙ ap Some (sym same)) in
-    let e : s ≡ r = some_same s r (sym p.1 ∙ ap (slice_get o.servers) one ∙ q.1) in
+    let e : s ≡ r = same_Some s r (sym p.1 ∙ ap (slice_get o.servers) one ∙ q.1) in
     bytes_same a s.name (found_passes (λ (x : ServerObject). bytes_eq a x.name) o.servers s is_s)
     ∙ ap (λ (x : ServerObject). x.name) e ∙ sym (bytes_same b r.name (found_passes (λ (x : ServerObject). bytes_eq b x.name) o.servers r is_r))
 
@@ -200,7 +196,7 @@ box_of_server e name place h server =
     let labels = map (λ (l : Label). l.name) e.labels in
     let one : x.0 ≡ place = one_place labels server.at.source x.0 place h.source_names (map_place (λ (l : Label). l.name) e.labels x.0 x.1.label x.1.there ∙ ap Some x.1.named)
     (map_place (λ (l : Label). l.name) e.labels place server.source.0 server.source.1 ∙ ap Some server.source.2) in
-    let same : x.1.label ≡ server.source.0 = some_same x.1.label server.source.0 (sym x.1.there ∙ ap (slice_get e.labels) one ∙ server.source.1) in
+    let same : x.1.label ≡ server.source.0 = same_Some x.1.label server.source.0 (sym x.1.there ∙ ap (slice_get e.labels) one ∙ server.source.1) in
     (x.1.box, ap (slice_get e.boxes) (sym one) ∙ x.1.box_there, ap (λ (l : Label). l.kind) (sym same) ∙ x.1.of_kind)
 
 pub bind_allowed : (e : Shown) (user : Name) (d : DdlTree) (t : TableObject) (place : ℕ) (box : BoxState) → IsSound e → IsAllowed e user d (new_table t) → IsServerAt e t.server place → slice_get e.boxes place ≡ Some (Some box)
@@ -212,7 +208,7 @@ bind_allowed e user d t place box h allowed server there = bind_ready e t place 
     made = made_by e.catalog (leased e) user d t allowed.clear allowed.asks
 
     same_server : server.at ≡ made.is.server
-    same_server = some_same server.at made.is.server (sym server.is ∙ ap (server_named e.catalog) made.is.of_server ∙ made.is.there)
+    same_server = same_Some server.at made.is.server (sym server.is ∙ ap (server_named e.catalog) made.is.of_server ∙ made.is.there)
 
     kind_is : server.source.0.kind ≡ made.is.server.kind
     kind_is = (box_of_server e t.server place h server).2 ∙ ap (λ (s : ServerObject). s.kind) same_server

@@ -3,30 +3,23 @@ use Rattle.std.proofs.Common.{◌≡◌, ◌≢◌, ℕ, ◌⊎◌, true, false,
 use Rattle.std.proofs.lemmas.Bool.{false≢true}
 use Rattle.std.proofs.lemmas.Bool.Decides.{eqb_tells}
 use Rattle.std.specs.List.{IsDistinct}
-use Rattle.std.proofs.lemmas.Option.{slice_get-map}
+use Rattle.std.proofs.lemmas.Option.{slice_get-map, same_Some}
 use Rattle.std.proofs.lemmas.Map.Keys.{IsDistinct-tail}
 use Rattle.std.proofs.lemmas.List.Sorted.{IsPermutation-refl}
 use Rattle.med_syntax.specs.Tree.{Name}
-use Rattle.fdw_api.specs.Kinds.{Kind, Holding, Held, held, Reading}
-use Rattle.fdw_api.specs.Scan.{TableRow}
-use Rattle.fdw_api.specs.State.{BoxState, is_honest, table_of, rows_of}
-use Rattle.fdw_api.specs.Calls.{NoScan, Binds, Unbinds, Refuses, Picks}
+use Rattle.fdw_api.specs.Prelude.{Kind, Holding, Held, held, Reading, TableRow, BoxState, is_honest, table_of, rows_of, NoScan, Binds, Unbinds, Refuses, Picks}
 use Rattle.fdw_api.specs.declared.interface.Fault.{Fault}
 use Rattle.med_exec.specs.Slots.{ChangesAt}
-use Rattle.med_catalog.specs.Objects.{ServerObject, TableObject, Objects, server_named}
-use Rattle.med_catalog.specs.Changes.{ObjectChange, new_table, no_server, no_table, changed}
+use Rattle.med_catalog.specs.Prelude.{ServerObject, TableObject, Objects, server_named, ObjectChange, new_table, no_server, no_table, changed}
 use Rattle.med_binder.specs.Places.{Attached}
-use Rattle.sql_meaning.specs.World.{World, Source, SourceState, standing, dropped, source_named, drop_source, drop_source_of, IsStanding, Serves, is_shared_state, is_shared_source, has_shared, is_shared_server, beside_without}
-use Rattle.sql_meaning.specs.Picks.{Pick, no_pick}
-use Rattle.sql_meaning.specs.Causes.{Reads, PicksEntry}
-use Rattle.sql_meaning.specs.Steps.{with_catalog, HasRows, as_read, any_rows, Changes}
+use Rattle.sql_meaning.specs.Prelude.{World, Source, SourceState, standing, dropped, source_named, drop_source, drop_source_of, IsStanding, Serves, is_shared_state, is_shared_source, has_shared, is_shared_server, beside_without, Pick, no_pick, Reads, PicksEntry, with_catalog, HasRows, as_read, any_rows, Changes}
 use Rattle.med_world.specs.Engine.{Label, Shown, leased, IsSound, IsNamedAt, IsServerAt, IsBoundAs, state_of, sources_of, AreRowsOf, RowsAgree, Agrees, with_change, BindsTable, UnbindsTable, DropsBox}
 use Rattle.med_world.specs.Altering.{BindsInVain}
 use Rattle.med_world.proofs.Seats.{sessions_stay, sessions_still, leases_same, named_apart, pushed_stands, dropped_stands, many_rows}
 use Rattle.med_world.proofs.Scans.{all_stay, unleased_scan}
 use Rattle.med_world.proofs.States.{honest_state, shared_state, honest_since, same_state}
 use Rattle.med_world.proofs.ScansChanged.{left_itself, quiet_left, catalog_scans, bind_quiet, bind_scans, unbind_quiet, unbind_scans, refused_quiet, refused_scans, vain_quiet, vain_scans, drop_left, drop_scans, first_named}
-use Rattle.med_world.proofs.Lists.{some_same, none_some, same_bytes, other_bytes, one_place, zero≢suc, left_was}
+use Rattle.med_world.proofs.Lists.{none_some, same_bytes, other_bytes, one_place, zero≢suc, left_was}
 use Rattle.med_world.proofs.Faring.{Spares, that_is, vain_spares, refuses_spares, changes_by, binds_spares, unbinds_spares, set_other, same_box}
 
 -- ---- sources
@@ -100,18 +93,18 @@ serves_at e w server place b sound h at there honest = record {
 -- a server serves by one kind and one store
 pub one_store : (w : World) (server : Name) (k m : Kind) (f g : Name → Holding) → Serves w server k f → Serves w server m g → f ≡ g
 one_store w server k m f g a b =
-    let at : a.at ≡ b.at = some_same a.at b.at (sym a.is ∙ b.is) in
+    let at : a.at ≡ b.at = same_Some a.at b.at (sym a.is ∙ b.is) in
     let one : Some a.stands.at ≡ Some b.stands.at = sym a.stands.is ∙ ap (λ (s : ServerObject). source_named s.source w.sources) at ∙ b.stands.is in
-    let s : a.stands.at ≡ b.stands.at = some_same a.stands.at b.stands.at one in
+    let s : a.stands.at ≡ b.stands.at = same_Some a.stands.at b.stands.at one in
     let st : standing k f ≡ standing m g = sym a.stands.state ∙ ap (λ (x : Source). x.state) s ∙ b.stands.state in
     cc
 
 -- one standing source is one with one kind
 pub one_kind : (w : World) (server : Name) (k m : Kind) (f g : Name → Holding) → Serves w server k f → Serves w server m g → k ≡ m
 one_kind w server k m f g a b =
-    let at : a.at ≡ b.at = some_same a.at b.at (sym a.is ∙ b.is) in
+    let at : a.at ≡ b.at = same_Some a.at b.at (sym a.is ∙ b.is) in
     let one : Some a.stands.at ≡ Some b.stands.at = sym a.stands.is ∙ ap (λ (s : ServerObject). source_named s.source w.sources) at ∙ b.stands.is in
-    let s : a.stands.at ≡ b.stands.at = some_same a.stands.at b.stands.at one in
+    let s : a.stands.at ≡ b.stands.at = same_Some a.stands.at b.stands.at one in
     let st : standing k f ≡ standing m g = sym a.stands.state ∙ ap (λ (x : Source). x.state) s ∙ b.stands.state in
     cc
 

@@ -4,23 +4,14 @@ use Rattle.std.proofs.lemmas.Bool.{false≢true}
 use Rattle.med_value.specs.Datum.{Tuple}
 use Rattle.med_value.specs.declared.cause.Cause.{Cause}
 use Rattle.med_value.specs.declared.cause.Cause.TheVariants.{LimitExceeded, OutOfMemory, NoConnection}
-use Rattle.med_syntax.specs.Tree.{Name}
-use Rattle.med_syntax.specs.QueryTree.{SelectTree, select}
+use Rattle.med_syntax.specs.Prelude.{Name, SelectTree, select}
 use Rattle.med_parser.specs.CommandTree.{on_data, on_rows, on_cursors, on_objects}
 use Rattle.med_parser.specs.CommandCauses.{SyntaxCauses}
 use Rattle.fdw_api.specs.State.{BoxState}
-use Rattle.med_binder.specs.Place.{Place}
+use Rattle.med_binder.specs.Prelude.{Place, meant_by, IsBindable, ArePlaces}
 use Rattle.med_exec.specs.Running.{AllServed, SlotShows, IsUsedUp}
 use Rattle.bind_names.specs.Meaning.{Meant}
-use Rattle.med_binder.specs.Queries.{meant_by, IsBindable}
-use Rattle.med_binder.specs.Places.{ArePlaces}
-use Rattle.sql_meaning.specs.Sizes.{is_large_form}
-use Rattle.sql_meaning.specs.Requests.{sql, IsSid}
-use Rattle.sql_meaning.specs.Picks.{no_pick}
-use Rattle.sql_meaning.specs.World.{World}
-use Rattle.sql_meaning.specs.Causes.{query_of}
-use Rattle.sql_meaning.specs.Replies.{Reply, answered, refused}
-use Rattle.sql_meaning.specs.Steps.{numbers_end}
+use Rattle.sql_meaning.specs.Prelude.{is_large_form, sql, IsSid, no_pick, World, query_of, Reply, answered, refused, numbers_end}
 use Rattle.med_world.specs.Engine.{Shown, IsSound, Agrees, Leads}
 use Rattle.med_world.specs.Selecting.{Selects, SelectFails, not_bound, too_many, run_fails}
 use Rattle.med_world.specs.Starting.{RunFails, no_memory, box_fails, numbers_out, shows_cause}

@@ -4,19 +4,16 @@ use Rattle.std.proofs.lemmas.List.{append-nil}
 use Rattle.std.proofs.lemmas.List.Elements.{All-head}
 use Rattle.med_value.specs.Datum.{Tuple}
 use Rattle.tri_expr.specs.declared.expr.Fault.{Fault}
-use Rattle.tri_expr.specs.Meaning.{means}
-use Rattle.tri_expr.specs.Verdict.{fault_list}
+use Rattle.tri_expr.specs.Prelude.{means, fault_list}
 use Rattle.tri_expr.proofs.Shuffled.{Shuffled, none, both, same, back, from_swaps, mapped, before, joined_to, each_mapped, filtered, as_long, any_kept}
 use Rattle.med_query.specs.Query.{keeps}
-use Rattle.fdw_api.specs.Kinds.{Held, held}
-use Rattle.fdw_api.specs.Scan.{GivenRow, TableRow, IsComing, plain_spec}
+use Rattle.fdw_api.specs.Prelude.{Held, held, GivenRow, TableRow, IsComing, plain_spec}
 use Rattle.med_write.specs.declared.write.WrittenColumn.{WrittenColumn}
 use Rattle.med_write.specs.Form.{GivenForm, WriteForm, insert_form, update_form, delete_form}
 use Rattle.med_write.specs.Writing.{row_made, new_cells, rows_given, rows_written, count_of, choice_faults, write_faults, lacks_value, write_lacks, made, rows_after, changes_of}
 use Rattle.med_write.specs.Making.{cells_of as cells_given}
 use Rattle.med_exec.specs.Writing.{AreRead}
-use Rattle.sql_meaning.specs.Picks.{as_given}
-use Rattle.sql_meaning.specs.World.{cells_of}
+use Rattle.sql_meaning.specs.Prelude.{as_given, cells_of}
 
 -- ---- over the same rows
 

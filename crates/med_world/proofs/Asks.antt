@@ -1,15 +1,12 @@
 -- What a request asked the boxes for: most ask them for nothing that is told.
 use Rattle.std.proofs.Common.{◌≡◌, ℕ, List, Option, ap, subst, arith}
 use Rattle.med_value.specs.declared.cause.Cause.{Cause}
-use Rattle.med_syntax.specs.Tree.{Name}
-use Rattle.med_syntax.specs.QueryTree.{select}
+use Rattle.med_syntax.specs.Prelude.{Name, select, CountTree, some_rows, all_rows, declare, fetch, close}
 use Rattle.fdw_api.specs.State.{BoxState}
 use Rattle.med_exec.specs.Pulling.{pulled_at, PullsNone}
-use Rattle.med_syntax.specs.CursorTree.{CountTree, some_rows, all_rows, declare, fetch, close}
 use Rattle.med_parser.specs.CommandTree.{CommandTree, on_data, on_rows, on_cursors, on_objects}
 use Rattle.med_parser.specs.CommandGrammar.{HasCommand}
-use Rattle.sql_meaning.specs.Requests.{AskedLine, sql}
-use Rattle.sql_meaning.specs.Replies.{Reply, refused}
+use Rattle.sql_meaning.specs.Prelude.{AskedLine, sql, Reply, refused}
 use Rattle.med_world.specs.Engine.{Shown, GivesWithin, TreeAsks, AsksBoxes}
 use Rattle.med_world.specs.Laws.{IsRead}
 

@@ -5,9 +5,8 @@ use Rattle.med_syntax.specs.Tree.{Name}
 use Rattle.fdw_api.specs.State.{BoxState}
 use Rattle.med_catalog.specs.Objects.{no_objects}
 use Rattle.med_value.specs.Limits.{session_count}
-use Rattle.sql_meaning.specs.Requests.{IsUser}
+use Rattle.sql_meaning.specs.Prelude.{IsUser, empty_world}
 use Rattle.med_world.specs.Open.{Seated}
-use Rattle.sql_meaning.specs.World.{empty_world}
 use Rattle.med_world.specs.Engine.{AreSound, KeepsScans, IsSound, Agrees}
 use Rattle.med_world.specs.Laws.{empty_shown}
 use Rattle.med_world.proofs.Sessions.{all_shut, shut_seats, shut_many, none_open}

@@ -4,9 +4,8 @@ use Rattle.std.proofs.lemmas.List.{append-nil, map-append}
 use Rattle.std.proofs.lemmas.List.Elements.{All-head, All-tail, All-nil, All-cons, Contains-append_left, Contains-append_right}
 use Rattle.std.specs.List.{All}
 use Rattle.fdw_api.specs.State.{BoxState}
-use Rattle.med_exec.specs.Running.{Held, ServesRun, none_held}
+use Rattle.med_exec.specs.Prelude.{Held, ServesRun, none_held, AreApart}
 use Rattle.med_exec.specs.Rests.{held, IsHeld}
-use Rattle.med_exec.specs.Leaving.{AreApart}
 use Rattle.med_exec.specs.declared.running.Run.{Run}
 use Rattle.med_exec.proofs.Leaving.{with_held, serves_beside}
 use Rattle.med_world.specs.declared.cursors.OpenCursor.{OpenCursor}

@@ -2,14 +2,11 @@
 use Rattle.std.proofs.Common.{◌≡◌, ℕ, ◌+◌, ◌≤◌, Bool, true, false, cond, nat_eq, List, Option, refl, ap, sym, ◌∙◌, subst, arith}
 use Rattle.fdw_api.specs.State.{BoxState}
 use Rattle.med_exec.specs.declared.running.Run.{Run}
-use Rattle.med_exec.specs.Counting.{BeginsScans}
-use Rattle.med_exec.specs.Pulling.{levels_in, slot_in, skip_in, limit_in, pulled_at, PullsAtMost, many_in, IsBareRun, PullsAsked, PullsNext}
-use Rattle.med_exec.specs.Running.{Held, ServesRun}
+use Rattle.med_exec.specs.Prelude.{BeginsScans, levels_in, slot_in, skip_in, limit_in, pulled_at, PullsAtMost, many_in, IsBareRun, PullsAsked, PullsNext, Held, ServesRun}
 use Rattle.med_exec.proofs.Served.{after_service}
-use Rattle.scan_loops.specs.Running.{source_at}
+use Rattle.scan_loops.specs.Prelude.{source_at, none_in}
 use Rattle.scan_loops.specs.declared.levels.LoopLevel.{LoopLevel}
 use Rattle.med_world.specs.Fetching.{PullsFor}
-use Rattle.scan_loops.specs.Counting.{none_in}
 
 pub begins_on : (f g : Held) (count : ℕ → ℕ) (old mid new : List (Option BoxState)) → ServesRun f g old mid → BeginsScans count old mid → BeginsScans none_in mid new → BeginsScans count old new
 begins_on f g count old mid new served first after slot s t was is =

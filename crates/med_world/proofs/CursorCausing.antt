@@ -1,13 +1,9 @@
 -- Which causes stand against a statement on cursors, and in which phase.
 use Rattle.std.proofs.Common.{◌≡◌, ℕ, ◌≤◌, true, length, IsSome, ap, arith}
 use Rattle.med_value.specs.declared.cause.Cause.{Cause}
-use Rattle.med_syntax.specs.Tree.{Name}
-use Rattle.med_syntax.specs.QueryTree.{SelectTree, select}
-use Rattle.med_syntax.specs.CursorTree.{CursorTree, declare, fetch, close}
+use Rattle.med_syntax.specs.Prelude.{Name, SelectTree, select, CursorTree, declare, fetch, close}
 use Rattle.med_query.specs.Form.{is_risky_form}
-use Rattle.sql_meaning.specs.World.{World, Session}
-use Rattle.sql_meaning.specs.Cursors.{cursor_named}
-use Rattle.sql_meaning.specs.Causes.{meant_over, SelectCauses, DeclareCauses, exists, of_query, is_risky, too_many, CursorCauses}
+use Rattle.sql_meaning.specs.Prelude.{World, Session, cursor_named, meant_over, SelectCauses, DeclareCauses, exists, of_query, is_risky, too_many, CursorCauses}
 use Rattle.med_world.proofs.Querying.{ArePhased, select_phase}
 use Rattle.med_catalog.specs.DdlCauses.{phase}
 

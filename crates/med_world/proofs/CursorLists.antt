@@ -3,15 +3,15 @@ use Rattle.std.proofs.Common.{◌≡◌, ℕ, ◌≤◌, ◌||◌, Bool, true, f
 use Rattle.std.specs.List.{IsDistinct, AllByRecursion, list_any}
 use Rattle.std.proofs.lemmas.Bool.{false≢true}
 use Rattle.std.proofs.lemmas.List.{map-append}
+use Rattle.std.proofs.lemmas.Option.{same_Some}
 use Rattle.med_value.specs.Datum.{Tuple}
 use Rattle.med_syntax.specs.Tree.{Name}
 use Rattle.fdw_api.specs.State.{BoxState}
 use Rattle.med_exec.specs.declared.running.Run.{Run}
 use Rattle.med_world.specs.Open.{Opened, AreNamedApart, has_name, opened_named, without_named, runs_on, with_run}
-use Rattle.sql_meaning.specs.World.{World, Cursor, reads_table}
-use Rattle.sql_meaning.specs.Cursors.{is_cursor, hand_out}
+use Rattle.sql_meaning.specs.Prelude.{World, Cursor, reads_table, is_cursor, hand_out}
 use Rattle.med_world.specs.Seats.{CursorAgrees, CursorsAgree}
-use Rattle.med_world.proofs.Lists.{some_same, same_bytes, bytes_same, other_bytes, bytes_other, each_at}
+use Rattle.med_world.proofs.Lists.{same_bytes, bytes_same, other_bytes, bytes_other, each_at}
 use Rattle.med_world.proofs.NamedTables.{place_of, at_place, map_place, none_later, distinct_push}
 use Rattle.med_world.proofs.Seats.{StandsOn, RestsStay, here_first, here_later, cursor_stays, or_true}
 
@@ -51,7 +51,7 @@ found boxes w name (x ∷ os) (c ∷ cs) o h at = split (has_name name x) refl (
     split true is rest e = record {
       cursor = c;
       is = ap (λ b. cond b (Some c) (find (is_cursor name) cs)) (named ∙ is);
-      agrees = subst (λ (y : Opened). CursorAgrees boxes w y c) (some_same x o e) h.0;
+      agrees = subst (λ (y : Opened). CursorAgrees boxes w y c) (same_Some x o e) h.0;
     }
     split false is rest e =
         let r = rest e in
@@ -70,10 +70,10 @@ named_one name [] o c apart at has is = absurd cc
 named_one name (x ∷ os) o c apart at has is = split (λ f later. named_one name os o c apart.1 f later is) (has_name name x) refl at (place_of (x ∷ os) c has)
   where
     split : (find (has_name name) os ≡ Some o → Contains os c → c ≡ o) → (b : Bool) → has_name name x ≡ b → cond b (Some x) (find (has_name name) os) ≡ Some o → (k : ℕ) × (slice_get (x ∷ os) k ≡ Some c) → c ≡ o
-    split rest b e f (zero, p) = first b e f (some_same x c p)
+    split rest b e f (zero, p) = first b e f (same_Some x c p)
       where
         first : (b : Bool) → has_name name x ≡ b → cond b (Some x) (find (has_name name) os) ≡ Some o → x ≡ c → c ≡ o
-        first true e f same = sym same ∙ some_same x o f
+        first true e f same = sym same ∙ same_Some x o f
         first false e f same = absurd (false≢true (sym e ∙ ap (has_name name) same ∙ is))
     split rest true e f (suc k, p) = absurd (bytes_other x.name c.name (each_at (λ n. bytes_eq x.name n ≡ false) (map (λ (y : Opened). y.name) os) k c.name apart.0 (map_place (λ (y : Opened). y.name) os k c p)) (bytes_same x.name name e ∙ sym (bytes_same c.name name is)))
     split rest false e f (suc k, p) = rest f (at_place os k c p)
@@ -97,7 +97,7 @@ nowhere : (name : Name) (os : List Opened) → find (has_name name) os ≡ None 
 nowhere name [] none k at = cc
 nowhere name (o ∷ os) none zero at =
     let n = none_later (has_name name) o os none in
-    bytes_other o.name name n.0 (some_same o.name name at)
+    bytes_other o.name name n.0 (same_Some o.name name at)
 nowhere name (o ∷ os) none (suc k) at = nowhere name os (none_later (has_name name) o os none).1 k at
 
 pub more_apart : (os : List Opened) (o : Opened) → opened_named o.name os ≡ None → AreNamedApart os → AreNamedApart (os ++ o ∷ [])
@@ -222,7 +222,7 @@ one_turns old new w v name run rows (x ∷ os) (c ∷ cs) o on stay apart at ste
     split : (b : Bool) → has_name name x ≡ b → cond b (Some x) (find (has_name name) os) ≡ Some o → (find (has_name name) os ≡ Some o → CursorsAgree new v (with_run name run os) (map (hand_out name rows) cs))
         → Pair new v name run rows x c × CursorsAgree new v (with_run name run os) (map (hand_out name rows) cs)
     split true is e rest =
-        let same : x ≡ o = some_same x o e in (
+        let same : x ≡ o = same_Some x o e in (
           pair_turns old new w v name run rows x c is h.0
               (subst (λ (y : Opened). CursorAgrees new v (record y { run = run }) (record c { handed = c.handed ++ rows })) (sym same) (step c (subst (λ (y : Opened). CursorAgrees old w y c) same h.0))),
           others_stay old new w v name run rows os cs on_rest stay_rest (all_turned x.name name (map (λ (o : Opened). o.name) os) (bytes_same x.name name is) apart.0) h.1,

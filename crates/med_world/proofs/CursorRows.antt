@@ -1,29 +1,23 @@
 -- The tables that the query of a cursor reads: they are there, and the rows that its cursor keeps are those of its entries.
 use Rattle.std.proofs.Common.{◌≡◌, ℕ, ◌+◌, Bool, true, false, cond, if◌then◌else◌, List, [], ◌∷◌, ◌++◌, Option, Some, is_some, Contains, slice_get, map, flat_map, unwrap_or, inl, refl, ap, sym, ◌∙◌, subst, zero, suc, arith, bytes_eq}
 use Rattle.std.specs.List.{list_any}
+use Rattle.std.proofs.lemmas.Option.{same_Some}
 use Rattle.med_value.specs.declared.cause.Cause.{Cause}
 use Rattle.med_value.specs.declared.cause.Cause.TheVariants.{UndefinedTable}
-use Rattle.med_syntax.specs.Tree.{Name}
-use Rattle.med_syntax.specs.QueryTree.{EntryTree, SelectTree, cores_of}
+use Rattle.med_syntax.specs.Prelude.{Name, EntryTree, SelectTree, cores_of}
 use Rattle.fdw_api.specs.Kinds.{Held}
-use Rattle.bind_names.specs.Scope.{TableShape, place_named, query_entries, is_known, entry_place}
-use Rattle.bind_names.specs.Naming.{entry_causes, core_alias_causes, entered_causes, asked_causes, once_known}
-use Rattle.med_binder.specs.Tables.{shapes}
-use Rattle.med_binder.specs.Queries.{meant_by, IsBindable}
-use Rattle.med_binder.specs.Places.{Attached, IsPlaceOf, ArePlaces}
-use Rattle.med_binder.specs.Place.{Place}
+use Rattle.bind_names.specs.Prelude.{TableShape, place_named, query_entries, is_known, entry_place, entry_causes, core_alias_causes, entered_causes, asked_causes, once_known}
+use Rattle.med_binder.specs.Prelude.{shapes, meant_by, IsBindable, Attached, IsPlaceOf, ArePlaces, Place}
 use Rattle.med_exec.specs.declared.running.Run.{Run}
 use Rattle.med_world.specs.Open.{Opened, leases_table}
 use Rattle.med_world.specs.Turning.{new_opened}
 use Rattle.med_catalog.specs.Objects.{TableObject, Objects}
 use Rattle.med_world.specs.Starting.{leases_of}
-use Rattle.sql_meaning.specs.World.{World, Leased, cells_of, rows_of_place, rows_named}
-use Rattle.sql_meaning.specs.Cursors.{rows_leased}
+use Rattle.sql_meaning.specs.Prelude.{World, Leased, cells_of, rows_of_place, rows_named, rows_leased, leased_now}
 use Rattle.sql_meaning.specs.Causes.{entry_tables, entries_in}
-use Rattle.sql_meaning.specs.Steps.{leased_now}
 use Rattle.med_world.specs.Seats.{StillStands}
 use Rattle.med_world.specs.Engine.{IsFirst, LeasesNumber}
-use Rattle.med_world.proofs.Lists.{some_same, same_bytes}
+use Rattle.med_world.proofs.Lists.{same_bytes}
 use Rattle.med_world.proofs.NamedTables.{place_of, at_place, map_place, some_of}
 use Rattle.med_world.proofs.Seats.{any_at}
 use Rattle.med_world.proofs.ScansChanged.{first_named}
@@ -120,7 +114,7 @@ entry_stands : (w : World) (es : List EntryTree) → AllKnown (shapes w.catalog)
 entry_stands w [] known k l at = absurd cc
 entry_stands w (e ∷ es) known zero l at =
     let p = at_known w.catalog e known.0 in
-    subst (StillStands w) (some_same (leased_as w e) l at) (record { there = ap is_some (first_table w.catalog.tables e.table p.place p.first).2; rows = refl })
+    subst (StillStands w) (same_Some (leased_as w e) l at) (record { there = ap is_some (first_table w.catalog.tables e.table p.place p.first).2; rows = refl })
 entry_stands w (e ∷ es) known (suc k) l at = entry_stands w es known.1 k l at
 
 pub tables_stand : (w : World) (user : Name) (q : SelectTree) → IsBindable w.catalog user q → (l : Leased) → Contains (leased_now w q) l → StillStands w l
@@ -152,7 +146,7 @@ entries_leased o bound c slot number [] (x ∷ xs) p known are leases k at sourc
 entries_leased o bound c slot number (e ∷ es) [] p known are leases k at source table = absurd are
 entries_leased o bound c slot number (e ∷ es) (x ∷ xs) p known are leases zero at source table =
     let a = at_known o e known.0 in
-    let same : x ≡ p = some_same x p at in
+    let same : x ≡ p = same_Some x p at in
     leased_entry o.tables bound c slot number e a.place p a.first (subst (λ (y : Place). IsPlaceOf bound a.place y) same (subst (λ (j : ℕ). IsPlaceOf bound j x) a.is are.0)) source table (leases zero e refl)
 entries_leased o bound c slot number (e ∷ es) (x ∷ xs) p known are leases (suc k) at source table =
     entries_leased o bound c slot number es xs p known.1 are.1 (λ j. leases (suc j)) k at source table

@@ -3,35 +3,28 @@ use Rattle.std.proofs.Common.{◌≡◌, ◌≢◌, ℕ, zero, suc, ◌+◌, ◌
 use Rattle.std.proofs.lemmas.Bool.{false≢true, leb-true, leb-false}
 use Rattle.std.proofs.lemmas.List.{length_push}
 use Rattle.std.proofs.lemmas.List.Elements.{Contains-append_left, Contains-append_right, Contains-append_cases}
+use Rattle.std.proofs.lemmas.Option.{same_Some}
 use Rattle.med_value.specs.Datum.{Tuple}
 use Rattle.med_value.specs.declared.cause.Cause.{Cause}
-use Rattle.med_syntax.specs.Tree.{Name}
-use Rattle.med_syntax.specs.QueryTree.{SelectTree}
-use Rattle.fdw_api.specs.State.{Scan, BoxState, scan_of}
-use Rattle.fdw_api.specs.Sound.{IsTableOf}
-use Rattle.med_exec.specs.Slots.{BoxAt}
+use Rattle.med_syntax.specs.Prelude.{Name, SelectTree, CountTree, CursorTree}
+use Rattle.fdw_api.specs.Prelude.{Scan, BoxState, scan_of, IsTableOf}
+use Rattle.med_exec.specs.Prelude.{BoxAt, AreApart, LeavesRun}
+use Rattle.med_exec.specs.Rests.{held}
 use Rattle.med_exec.specs.declared.running.Run.{Run}
 use Rattle.med_exec.specs.Running.{Held as Scans, Served, ServesRun, none_held}
-use Rattle.med_exec.specs.Rests.{held}
-use Rattle.med_exec.specs.Leaving.{AreApart, LeavesRun}
 use Rattle.med_exec.proofs.Served.{serves_on}
 use Rattle.med_exec.proofs.Leaving.{is_some_of, served_leaves, served_fresh}
 use Rattle.med_exec.proofs.Left.{run_goes_on, run_is_held, held_is_live}
-use Rattle.med_syntax.specs.CursorTree.{CountTree, CursorTree}
 use Rattle.med_parser.specs.CommandTree.{on_cursors}
 use Rattle.med_world.specs.Open.{Opened, Seated, is_full, has_name, opened_named, without_named, runs_on, with_run}
 use Rattle.med_world.specs.Starting.{ScansOne, Starts, StartFails, not_bound, is_risky, no_room, too_many, run_fails}
 use Rattle.med_world.specs.Fetching.{GivesRows}
-use Rattle.sql_meaning.specs.Requests.{sql, IsSid}
-use Rattle.sql_meaning.specs.Picks.{no_pick}
-use Rattle.sql_meaning.specs.World.{World, Session}
-use Rattle.sql_meaning.specs.Cursors.{cursor_named}
-use Rattle.sql_meaning.specs.Causes.{IsPickOf}
+use Rattle.sql_meaning.specs.Prelude.{sql, IsSid, no_pick, World, Session, cursor_named, IsPickOf}
 use Rattle.med_world.specs.Seats.{seat_in, seat_of, IsSoundSeat, IsOpenAt, CursorsAgree, SeatAgrees}
 use Rattle.med_world.specs.Engine.{Shown, LeasesNumber, IsOwned, IsSound, Agrees}
 use Rattle.med_world.specs.Turning.{new_opened, with_cursors, having_asked, Ends, at_once, later}
 use Rattle.med_world.specs.Laws.{IsRead, with_boxes}
-use Rattle.med_world.proofs.Lists.{some_same, none_some, same_bytes, bytes_same, bytes_other}
+use Rattle.med_world.proofs.Lists.{none_some, same_bytes, bytes_same, bytes_other}
 use Rattle.med_world.proofs.NamedTables.{place_of, at_place, map_place, found_place, found_passes}
 use Rattle.med_world.proofs.Faring.{same_box, set_same}
 use Rattle.med_world.proofs.Seats.{RestsStay, on_stays, IsIn, place_there, here_first, here_later}
@@ -48,7 +41,7 @@ use Rattle.med_world.proofs.CursorLists.{IsFound, found, as_found, as_many, name
 cursors_of : (boxes : List (Option BoxState)) (w : World) (seat : Option Seated) (s : Option Session) (x : Seated) → SeatAgrees boxes w seat s → seat ≡ Some x → CursorsAgree boxes w x.cursors (cursors_in s)
 cursors_of boxes w None s x h e = absurd cc
 cursors_of boxes w (Some seat) None x h e = absurd h
-cursors_of boxes w (Some seat) (Some s) x h e = subst (λ (y : Seated). CursorsAgree boxes w y.cursors s.cursors) (some_same seat x e) h.1
+cursors_of boxes w (Some seat) (Some s) x h e = subst (λ (y : Seated). CursorsAgree boxes w y.cursors s.cursors) (same_Some seat x e) h.1
 
 pub cursors_at : (e : Shown) (w : World) (sid : ℕ) (seat : Seated) → IsSid sid → seat_of e.seats sid ≡ Some seat → Agrees e w → CursorsAgree e.boxes w seat.cursors (cursors_in (w.sessions sid))
 cursors_at e w sid seat is at a = cursors_of e.boxes w (seat_of e.seats sid) (w.sessions sid) seat (a.sessions sid is) at
@@ -139,7 +132,7 @@ left_in name [] c h = absurd (let n = h.1 in omega arith)
 left_in name (x ∷ xs) c h = split (λ k. let r = left_in name xs c k in (here_later x c xs r.0, r.1)) (has_name name x) refl h
   where
     at : (Contains (without_named name xs) c → Contains (x ∷ xs) c × (has_name name c ≡ false)) → (b : Bool) → has_name name x ≡ b → b ≡ false → (k : ℕ) × (slice_get (x ∷ without_named name xs) k ≡ Some c) → Contains (x ∷ xs) c × (has_name name c ≡ false)
-    at rest b is none (zero, p) = let same : x ≡ c = some_same x c p in (subst (λ (y : Opened). Contains (x ∷ xs) y) same (here_first x xs), ap (has_name name) (sym same) ∙ is ∙ none)
+    at rest b is none (zero, p) = let same : x ≡ c = same_Some x c p in (subst (λ (y : Opened). Contains (x ∷ xs) y) same (here_first x xs), ap (has_name name) (sym same) ∙ is ∙ none)
     at rest b is none (suc k, p) = rest (at_place (without_named name xs) k c p)
 
     split : (Contains (without_named name xs) c → Contains (x ∷ xs) c × (has_name name c ≡ false)) → (b : Bool) → has_name name x ≡ b → Contains (cond (not b) (x ∷ without_named name xs) (without_named name xs)) c → Contains (x ∷ xs) c × (has_name name c ≡ false)
@@ -151,9 +144,9 @@ still_in name [] c h ne = h
 still_in name (x ∷ xs) c h ne = split (λ later. still_in name xs c later ne) (has_name name x) refl (place_of (x ∷ xs) c h)
   where
     split : (Contains xs c → Contains (without_named name xs) c) → (b : Bool) → has_name name x ≡ b → (k : ℕ) × (slice_get (x ∷ xs) k ≡ Some c) → Contains (cond (not b) (x ∷ without_named name xs) (without_named name xs)) c
-    split rest true is (zero, p) = absurd (false≢true (sym ne ∙ ap (has_name name) (sym (some_same x c p)) ∙ is))
+    split rest true is (zero, p) = absurd (false≢true (sym ne ∙ ap (has_name name) (sym (same_Some x c p)) ∙ is))
     split rest true is (suc k, p) = rest (at_place xs k c p)
-    split rest false is (zero, p) = subst (λ (y : Opened). Contains (x ∷ without_named name xs) y) (some_same x c p) (here_first x (without_named name xs))
+    split rest false is (zero, p) = subst (λ (y : Opened). Contains (x ∷ without_named name xs) y) (same_Some x c p) (here_first x (without_named name xs))
     split rest false is (suc k, p) = here_later x c (without_named name xs) (rest (at_place xs k c p))
 
 -- a run that was closed, whatever was asked of it before
@@ -198,7 +191,7 @@ ran_on name run [] c h = absurd (let n = h.1 in omega arith)
 ran_on name run (x ∷ xs) c h = split (λ later. ran_on name run xs c later) (place_of (with_run name run (x ∷ xs)) c h)
   where
     split : (Contains (with_run name run xs) c → (d : Opened) × Contains xs d × (runs_on name run d ≡ c)) → (k : ℕ) × (slice_get (runs_on name run x ∷ with_run name run xs) k ≡ Some c) → (d : Opened) × Contains (x ∷ xs) d × (runs_on name run d ≡ c)
-    split rest (zero, p) = (x, here_first x xs, some_same (runs_on name run x) c p)
+    split rest (zero, p) = (x, here_first x xs, same_Some (runs_on name run x) c p)
     split rest (suc k, p) = let r = rest (at_place (with_run name run xs) k c p) in (r.0, here_later x r.0 xs r.1, r.2)
 
 runs_in : (name : Name) (run : Run) (cursors : List Opened) (d : Opened) → Contains cursors d → Contains (with_run name run cursors) (runs_on name run d)
@@ -334,7 +327,7 @@ module _ (e : Shown) (new : List (Option BoxState)) (sid : ℕ) (seat : Seated) 
   now_is c has = one_place (place_of (opened_now ∷ []) c has)
     where
       one_place : (k : ℕ) × (slice_get (opened_now ∷ []) k ≡ Some c) → opened_now ≡ c
-      one_place (zero, p) = some_same opened_now c p
+      one_place (zero, p) = same_Some opened_now c p
       one_place (suc k, p) = absurd (no_more k p)
         where
           no_more : (k : ℕ) → slice_get {X = Opened} [] k ≡ Some c → ⊥
@@ -351,7 +344,7 @@ module _ (e : Shown) (new : List (Option BoxState)) (sid : ℕ) (seat : Seated) 
       box = same_box x.box t (sym x.there ∙ at_t)
 
       one : x.holds.scan ≡ scan
-      one = some_same x.holds.scan scan (sym x.holds.live ∙ ap (λ (b : BoxState). scan_of b number) box ∙ live)
+      one = same_Some x.holds.scan scan (sym x.holds.live ∙ ap (λ (b : BoxState). scan_of b number) box ∙ live)
 
       leases : LeasesNumber e.catalog.tables e.bound opened_now slot scan.table
       leases = place_leased e.catalog seat.user e.bound q names name run h.places slot scan.table x.holds.place h.bindable h.are x.holds.is_one x.holds.source (x.holds.table ∙ ap (λ (s : Scan). s.table) one)
@@ -397,7 +390,7 @@ left_here name cursors c has = (left_in name cursors c has).0
 
 turned_here : (e : Shown) (new : List (Option BoxState)) (sid : ℕ) (seat : Seated) (cursors : List Opened) → IsSid sid → Turned e (sid - 1) (Some (record seat { cursors = cursors })) new → IsSound e → IsSoundSeat (record seat { cursors = cursors }) → IsSound (with_cursors e sid seat cursors new)
 turned_here e new sid seat cursors is t sound here =
-    turned_sound e new sid (Some (record seat { cursors = cursors })) is t sound (λ s same. subst IsSoundSeat (some_same (record seat { cursors = cursors }) s same) here)
+    turned_sound e new sid (Some (record seat { cursors = cursors })) is t sound (λ s same. subst IsSoundSeat (same_Some (record seat { cursors = cursors }) s same) here)
 
 pub declared_sound : (e : Shown) (new : List (Option BoxState)) (sid : ℕ) (seat : Seated) (name : Name) (q : SelectTree) (names : List Name) (run : Run) → IsSid sid → IsSound e → seat_of e.seats sid ≡ Some seat → opened_named name seat.cursors ≡ None
     → Starts e.catalog seat.user e.bound q (is_full seat.cursors) e.boxes names run new → IsSound (with_cursors e sid seat (seat.cursors ++ new_opened name names q run ∷ []) new)

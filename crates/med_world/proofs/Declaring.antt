@@ -3,32 +3,22 @@ use Rattle.std.proofs.Common.{◌≡◌, ℕ, ◌≤◌, Bool, true, false, map,
 use Rattle.std.proofs.lemmas.Bool.{false≢true}
 use Rattle.med_value.specs.declared.cause.Cause.{Cause}
 use Rattle.med_value.specs.declared.cause.Cause.TheVariants.{LimitExceeded, FeatureNotSupported, DuplicateCursor, SourceFault, OutOfMemory}
-use Rattle.med_syntax.specs.Tree.{Name}
-use Rattle.med_syntax.specs.QueryTree.{SelectTree, select}
-use Rattle.med_query.specs.Query.{Tables, IsAnswer}
+use Rattle.med_syntax.specs.Prelude.{Name, SelectTree, select, declare}
+use Rattle.med_query.specs.Prelude.{Tables, IsAnswer, is_risky_form}
 use Rattle.fdw_api.specs.State.{BoxState}
-use Rattle.med_binder.specs.Place.{Place}
+use Rattle.med_binder.specs.Prelude.{Place, QueryNames, QueryTypes, meant_by, IsBindable, NotBound, ArePlaces}
 use Rattle.med_exec.specs.declared.running.Run.{Run}
-use Rattle.med_exec.specs.Running.{HonestOver, AllServed, none_held}
+use Rattle.med_exec.specs.Prelude.{HonestOver, AllServed, none_held}
+use Rattle.med_exec.specs.Rests.{held}
 use Rattle.med_exec.proofs.Served.{honest_in_still}
 use Rattle.med_exec.proofs.Left.{run_is_held, run_honest}
-use Rattle.med_exec.specs.Rests.{held}
 use Rattle.med_parser.specs.CommandTree.{CommandTree, on_cursors}
-use Rattle.med_syntax.specs.CursorTree.{declare}
 use Rattle.bind_names.specs.Meaning.{Meant}
-use Rattle.med_binder.specs.Queries.{QueryNames, QueryTypes, meant_by, IsBindable, NotBound}
-use Rattle.med_binder.specs.Places.{ArePlaces}
-use Rattle.med_catalog.specs.Objects.{Objects}
+use Rattle.med_catalog.specs.Prelude.{Objects, phase}
 use Rattle.med_world.specs.Open.{Seated, is_full, opened_named}
-use Rattle.med_query.specs.Form.{is_risky_form}
 use Rattle.med_world.specs.Starting.{Starts, StartFails, not_bound, is_risky, no_room, too_many, run_fails, RunFails, no_memory, box_fails, numbers_out, shows_cause}
-use Rattle.sql_meaning.specs.Sizes.{is_large_form}
-use Rattle.sql_meaning.specs.Requests.{sql, IsSid}
-use Rattle.sql_meaning.specs.Picks.{no_pick}
-use Rattle.sql_meaning.specs.World.{World, rows_of_place, with_session}
-use Rattle.sql_meaning.specs.Cursors.{with_cursor}
+use Rattle.sql_meaning.specs.Prelude.{is_large_form, sql, IsSid, no_pick, World, rows_of_place, with_session, with_cursor, Reply, done, refused}
 use Rattle.sql_meaning.specs.Causes.{query_of, entry_tables, meant_over, reads_shared, QueryRun, DeclareCauses, exists, of_query, is_risky as may_fault, too_many as is_full_already, NoneBeforeState}
-use Rattle.sql_meaning.specs.Replies.{Reply, done, refused}
 use Rattle.sql_meaning.specs.Steps.{Step, new_cursor, is_refused, is_done, source_fails, numbers_end}
 use Rattle.med_world.specs.Seats.{seat_of, opened_in, CursorAgrees, CursorsAgree}
 use Rattle.med_world.specs.Engine.{Shown, IsSound, Agrees, Leads}
@@ -49,7 +39,6 @@ use Rattle.med_world.proofs.CursorCausing.{cursor_phase, least_declare, none_dec
 use Rattle.med_world.proofs.CursorRows.{rows_kept, tables_kept, tables_stand}
 use Rattle.med_world.proofs.CursorLists.{one_more, named_last}
 use Rattle.med_world.proofs.CursorSeats.{seat_put, cursors_at, picks_none, not_named, is_named, not_full, full_there, declared_turn, declared_left, here_stays}
-use Rattle.med_catalog.specs.DdlCauses.{phase}
 
 -- the statement, and the session that it is of
 abbrev Tree : Name → SelectTree → CommandTree

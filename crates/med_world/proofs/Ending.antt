@@ -1,22 +1,15 @@
 -- A statement on objects leads to its reply, however it ends.
 use Rattle.std.proofs.Common.{◌≡◌, ℕ, ◌⊎◌, List, Option, refl, sym, subst, inl, inr}
 use Rattle.med_value.specs.declared.cause.Cause.{Cause}
-use Rattle.med_syntax.specs.Tree.{Name}
-use Rattle.fdw_api.specs.State.{BoxState}
-use Rattle.fdw_api.specs.Calls.{Refuses, RefusesBind}
+use Rattle.med_syntax.specs.Prelude.{Name, DdlTree}
+use Rattle.fdw_api.specs.Prelude.{BoxState, Refuses, RefusesBind}
 use Rattle.fdw_api.specs.declared.interface.Fault.{Fault}
 use Rattle.med_value.specs.declared.cause.Cause.TheVariants.{OutOfMemory}
 use Rattle.fdw_api.specs.declared.interface.Fault.TheVariants.{NoMemory, Source as SourceFailed, Refused}
 use Rattle.med_exec.specs.Slots.{ChangesAt}
-use Rattle.med_syntax.specs.DdlTree.{DdlTree}
-use Rattle.med_catalog.specs.Objects.{TableObject}
-use Rattle.med_catalog.specs.Changes.{new_table}
-use Rattle.sql_meaning.specs.Requests.{sql}
+use Rattle.med_catalog.specs.Prelude.{TableObject, new_table}
+use Rattle.sql_meaning.specs.Prelude.{sql, Pick, World, IsPickOf, refused}
 use Rattle.med_parser.specs.CommandTree.{on_objects}
-use Rattle.sql_meaning.specs.Picks.{Pick}
-use Rattle.sql_meaning.specs.World.{World}
-use Rattle.sql_meaning.specs.Causes.{IsPickOf}
-use Rattle.sql_meaning.specs.Replies.{refused}
 use Rattle.med_world.specs.Engine.{Shown, IsSound, IsServerAt, Agrees, Rises, EachRises, Leads}
 use Rattle.med_world.specs.Altering.{IsAllowed, BindsInVain, NotAltered, catalog_shows, not_free, no_memory, bind_fails, bind_undone}
 use Rattle.med_world.specs.Laws.{IsRead}

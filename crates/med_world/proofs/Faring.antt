@@ -1,9 +1,7 @@
 -- A box in one slot changes, and all others stay.
 use Rattle.std.proofs.Common.{◌≡◌, ◌≢◌, ℕ, ◌-◌, ◌^◌, ◌≤◌, min, ◌⊎◌, true, false, cond, List, [], ◌∷◌, Option, Some, None, IsSome, slice_get, slice_set, refl, ap, sym, ◌∙◌, subst, arith, zero, suc, eqb, inl, inr}
 use Rattle.std.proofs.lemmas.Bool.Decides.{eqb_tells}
-use Rattle.fdw_api.specs.Kinds.{Column, OptionForm}
-use Rattle.fdw_api.specs.State.{scan_of, BoxState, IsIdle, is_honest, table_of, rows_of, set_at}
-use Rattle.fdw_api.specs.Calls.{Binds, Unbinds, Refuses, faults_after}
+use Rattle.fdw_api.specs.Prelude.{Column, OptionForm, scan_of, BoxState, IsIdle, is_honest, table_of, rows_of, set_at, Binds, Unbinds, Refuses, faults_after}
 use Rattle.fdw_api.specs.declared.interface.Fault.{Fault}
 use Rattle.fdw_api.specs.declared.interface.Fault.TheVariants.{NoMemory, Source, Refused}
 use Rattle.med_exec.specs.Slots.{ChangesAt}

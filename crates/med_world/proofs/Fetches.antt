@@ -2,12 +2,11 @@
 use Rattle.std.proofs.Common.{◌≡◌, ℕ, ◌+◌, ◌-◌, min, List, [], ◌∷◌, ◌++◌, Option, Some, None, Contains, slice_get, length, map, drop, refl, ap, sym, ◌∙◌, subst, zero, suc, arith, inl, inr}
 use Rattle.std.proofs.lemmas.List.{append_assoc, append-nil, length-append, length-take, length-drop, length-map}
 use Rattle.std.proofs.lemmas.List.Sorted.{length_permutation}
+use Rattle.std.proofs.lemmas.Option.{same_Some}
 use Rattle.med_value.specs.Datum.{Tuple}
 use Rattle.med_query.specs.Query.{Query, Tables, Output, outputs, limited, page, IsAnswer}
 use Rattle.med_syntax.specs.CursorTree.{CountTree, some_rows, all_rows}
-use Rattle.sql_meaning.specs.World.{Cursor}
-use Rattle.sql_meaning.specs.Cursors.{rows_leased, handing, IsEnough, Fetched, AreFetched, IsLast, rows_fetched}
-use Rattle.med_world.proofs.Lists.{some_same}
+use Rattle.sql_meaning.specs.Prelude.{Cursor, rows_leased, handing, IsEnough, Fetched, AreFetched, IsLast, rows_fetched}
 use Rattle.med_world.proofs.NamedTables.{place_of}
 
 -- ---- answers are of one length
@@ -62,7 +61,7 @@ whole_stays c (f ∷ fs) whole h =
 all_given : (c : Cursor) (f : Fetched) (fs : List Fetched) (k : ℕ) → AreFetched c fs → slice_get fs k ≡ Some f → IsLast f.asked f.rows → IsAnswer c.query (rows_leased c.reads) (c.handed ++ rows_fetched fs)
 all_given c f [] k h at last = absurd cc
 all_given c f (g ∷ gs) zero h at last =
-    let same : g ≡ f = some_same g f at in
+    let same : g ≡ f = same_Some g f at in
     let left : h.0.left ≡ [] = none_left g.asked g.rows h.0.left (subst (λ (x : Fetched). IsLast x.asked x.rows) (sym same) last) h.0.enough in
     let whole : IsAnswer c.query (rows_leased c.reads) (c.handed ++ g.rows) =
     subst (IsAnswer c.query (rows_leased c.reads)) (ap (λ (l : List Tuple). (c.handed ++ g.rows) ++ l) left ∙ append-nil (c.handed ++ g.rows)) h.0.answers in

@@ -1,7 +1,6 @@
 -- Where the elements of a list stood before the one of a name went.
 use Rattle.std.proofs.Common.{◌≡◌, ◌≢◌, ℕ, Bool, true, false, cond, List, [], ◌∷◌, slice_get, length, refl, ap, ◌∙◌, zero, suc, arith, bytes_eq}
-use Rattle.med_catalog.specs.Objects.{TableObject}
-use Rattle.med_catalog.specs.Changes.{without}
+use Rattle.med_catalog.specs.Prelude.{TableObject, without}
 use Rattle.sql_meaning.specs.World.{beside_without}
 use Rattle.med_world.specs.Engine.{IsFirst}
 

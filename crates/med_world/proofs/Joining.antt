@@ -2,16 +2,15 @@
 use Rattle.std.proofs.Common.{◌≡◌, ℕ, ◌+◌, ◌<◌, ◌≤◌, List, [], ◌∷◌, ◌++◌, Option, Some, None, slice_get, length, map, refl, ap, sym, ◌∙◌, subst, zero, suc, inl, inr, arith, bytes_eq, ◌⊎◌}
 use Rattle.std.specs.List.{IsDistinct}
 use Rattle.std.proofs.lemmas.List.{length_push, map-append}
-use Rattle.fdw_api.specs.Kinds.{Held}
-use Rattle.fdw_api.specs.State.{BoxState, BoxTable, IsIdle, table_of}
-use Rattle.fdw_api.specs.Sound.{IsSoundBox}
+use Rattle.std.proofs.lemmas.Option.{same_Some}
+use Rattle.fdw_api.specs.Prelude.{Held, BoxState, BoxTable, IsIdle, table_of, IsSoundBox}
 use Rattle.med_catalog.specs.declared.kind.SourceKind.{SourceKind}
 use Rattle.med_binder.specs.Places.{Attached}
 use Rattle.med_value.specs.Limits.{source_limit}
 use Rattle.sql_meaning.specs.World.{World, Source, with_source}
 use Rattle.med_world.specs.Engine.{Label, Shown, EachBox, EachTakes, TakesAs, IsNamedAt, IsAmong, IsSound, state_of, sources_of, RowsAgree, Agrees}
 use Rattle.med_world.specs.Adding.{HasSource, with_box, Adds}
-use Rattle.med_world.proofs.Lists.{some_same, none_some, push_before, push_cases, past}
+use Rattle.med_world.proofs.Lists.{none_some, push_before, push_cases, past}
 use Rattle.med_world.proofs.NamedTables.{distinct_push}
 use Rattle.med_world.proofs.Seats.{sessions_still}
 use Rattle.med_world.proofs.Scans.{all_stay}
@@ -37,7 +36,7 @@ takes_push labels boxes l b same h takes place k s at_k at_s = both (push_cases 
     both (inl x) (inr y) = absurd (past labels place k x (y.0 ∙ same))
     both (inr x) (inl y) = absurd (past boxes place (Some s) y (x.0 ∙ sym same))
     both (inr x) (inr y) =
-        let e : b ≡ s = some_same b s y.1 in
+        let e : b ≡ s = same_Some b s y.1 in
         subst (λ (z : BoxState). TakesAs k.kind z) e (subst (λ (z : Label). TakesAs z.kind b) x.1 takes)
 
 -- an idle box is sound: a law of boxes
@@ -91,7 +90,7 @@ added_sound law e name kind b h none room idle takes = record {
         either : (slice_get e.boxes slot ≡ Some (Some s)) ⊎ ((slot ≡ length e.boxes) × (Some b ≡ Some s)) → IsAmong e.bound slot number
         either (inl old) = h.bound_attached slot number s x old is
         either (inr new) =
-            let same : b ≡ s = some_same b s new.1 in
+            let same : b ≡ s = same_Some b s new.1 in
             absurd (none_some x (table_of s number) (subst (λ (z : BoxState). table_of z number ≡ None) same (idle.no_table number)) is)
 
 sources_push : (labels : List Label) (boxes : List (Option BoxState)) (l : Label) (b : BoxState) → length boxes ≡ length labels

@@ -2,21 +2,17 @@
 use Rattle.std.proofs.Common.{◌≡◌, ◌≢◌, ◌⊎◌, ◌&&◌, ℕ, Bool, true, false, ◌||◌, if◌then◌else◌, List, [], ◌∷◌, ◌++◌, cond, Option, Some, None, IsSome, is_some, Contains, slice_get, length, find, refl, ap, sym, ◌∙◌, subst, zero, suc, inl, inr, bytes_eq}
 use Rattle.std.specs.List.{IsDistinct, list_any}
 use Rattle.std.proofs.lemmas.Bool.{false≢true}
+use Rattle.std.proofs.lemmas.Option.{same_Some}
 use Rattle.med_value.specs.Column.{Column}
 use Rattle.med_value.specs.declared.cause.Cause.{Cause}
 use Rattle.med_value.specs.declared.cause.Cause.TheVariants.{DuplicateTable, DuplicateObject, DependentObjects, InUse}
-use Rattle.med_syntax.specs.Tree.{Name}
-use Rattle.med_syntax.specs.DdlTree.{ColumnTree, ServerTree, MappingTree, TableTree, DdlTree, create_wrapper, create_server, create_mapping, create_table, drop_wrapper, drop_server, drop_table, drop_mapping}
-use Rattle.med_catalog.specs.Objects.{MappingObject, ServerObject, TableObject, Objects, server_named, table_named}
+use Rattle.med_syntax.specs.Prelude.{Name, ColumnTree, ServerTree, MappingTree, TableTree, DdlTree, create_wrapper, create_server, create_mapping, create_table, drop_wrapper, drop_server, drop_table, drop_mapping}
+use Rattle.med_catalog.specs.Prelude.{MappingObject, ServerObject, TableObject, Objects, server_named, table_named, user_meant, text_of, remote_label, table_settings, column_settings, ObjectChange, nothing, new_wrapper, new_server, new_mapping, new_table, no_wrapper, no_server, no_mapping, no_table, without, with_first, changed, is_skipped, IsDeclared, AreDeclared, IsNewServer, IsNewMapping, IsNewTable, Makes, Asks, skips, makes, CauseRow, DdlCauses, Stands, create_table_rows, create_table_rows_at, is_bound, has_dependents, has_mappings, lease_rows, object_rows, ddl_rows}
 use Rattle.fdw_api.specs.Kinds.{OptionForm}
-use Rattle.med_catalog.specs.Rights.{user_meant}
-use Rattle.med_catalog.specs.Options.{text_of, remote_label, table_settings, column_settings}
-use Rattle.med_catalog.specs.Changes.{ObjectChange, nothing, new_wrapper, new_server, new_mapping, new_table, no_wrapper, no_server, no_mapping, no_table, without, with_first, changed, is_skipped, IsDeclared, AreDeclared, IsNewServer, IsNewMapping, IsNewTable, Makes, Asks, skips, makes}
-use Rattle.med_catalog.specs.DdlCauses.{CauseRow, DdlCauses, Stands, create_table_rows, create_table_rows_at, is_bound, has_dependents, has_mappings, lease_rows, object_rows, ddl_rows}
 use Rattle.med_catalog.specs.declared.kind.SourceKind.{SourceKind}
 use Rattle.sql_meaning.specs.World.{is_taken}
 use Rattle.med_world.specs.Engine.{AreSound}
-use Rattle.med_world.proofs.Lists.{some_same, bytes_same, same_bytes, other_bytes, bytes_other, push_cases}
+use Rattle.med_world.proofs.Lists.{bytes_same, same_bytes, other_bytes, bytes_other, push_cases}
 use Rattle.med_world.proofs.NamedTables.{place_of, at_place, distinct_more, distinct_fewer, same_first, find_first, find_fewer, back_fewer, still_found, some_of, none_of}
 
 -- ---- a statement asks one change
@@ -31,24 +27,24 @@ declared_once (c ∷ cs) (x ∷ xs) (y ∷ ys) h k =
     λ i. one c x y h.0 k.0 i ∷ declared_once cs xs ys h.1 k.1 i
   where
     one : (c : ColumnTree) (x y : Column) → IsDeclared c x → IsDeclared c y → x ≡ y
-    one c x y h k = λ i. record { name = (h.0 ∙ sym k.0) i; kind = some_same x.kind y.kind (sym h.1 ∙ k.1) i; not_null = (h.2 ∙ sym k.2) i }
+    one c x y h k = λ i. record { name = (h.0 ∙ sym k.0) i; kind = same_Some x.kind y.kind (sym h.1 ∙ k.1) i; not_null = (h.2 ∙ sym k.2) i }
 
 server_once : (o : Objects) (s : ServerTree) (a b : ServerObject) → IsNewServer o s a → IsNewServer o s b → a ≡ b
 server_once o s a b h k =
-    let w : h.wrapper ≡ k.wrapper = some_same h.wrapper k.wrapper (sym h.there ∙ k.there) in
-    let t : h.source ≡ k.source = some_same h.source k.source (sym h.takes ∙ k.takes) in
+    let w : h.wrapper ≡ k.wrapper = same_Some h.wrapper k.wrapper (sym h.there ∙ k.there) in
+    let t : h.source ≡ k.source = same_Some h.source k.source (sym h.takes ∙ k.takes) in
     h.is ∙ (λ i. record { name = s.name; wrapper = s.wrapper; kind = (w i).kind; source = t i; mappings = [] }) ∙ sym k.is
 
 mapping_once : (user : Name) (m : MappingTree) (a b : MappingObject) → IsNewMapping user m a → IsNewMapping user m b → a ≡ b
-mapping_once user m a b h k = λ i. record { user = (h.whose ∙ sym k.whose) i; mode = some_same a.mode b.mode (sym h.mode ∙ k.mode) i }
+mapping_once user m a b h k = λ i. record { user = (h.whose ∙ sym k.whose) i; mode = same_Some a.mode b.mode (sym h.mode ∙ k.mode) i }
 
 table_once : (o : Objects) (t : TableTree) (a b : TableObject) → IsNewTable o t a → IsNewTable o t b → a ≡ b
 table_once o t a b h k =
-    let s : h.server ≡ k.server = some_same h.server k.server (sym h.there ∙ k.there) in
+    let s : h.server ≡ k.server = same_Some h.server k.server (sym h.there ∙ k.there) in
     λ i. record {
       name = (h.name ∙ sym k.name) i;
       server = (h.of_server ∙ sym k.of_server) i;
-      remote = some_same a.remote b.remote (sym h.remote ∙ ap (λ (x : ServerObject). text_of t.options (remote_label x.kind)) s ∙ k.remote) i;
+      remote = same_Some a.remote b.remote (sym h.remote ∙ ap (λ (x : ServerObject). text_of t.options (remote_label x.kind)) s ∙ k.remote) i;
       columns = declared_once t.columns a.columns b.columns h.columns k.columns i;
       settings = (h.settings ∙ ap (λ (x : ServerObject). settings_of x) s ∙ sym k.settings) i;
     }
@@ -58,7 +54,7 @@ table_once o t a b h k =
 
 makes_once : (o : Objects) (user : Name) (d : DdlTree) (a b : ObjectChange) → Makes o user d a → Makes o user d b → a ≡ b
 makes_once o user (create_wrapper name handler) a b h k =
-    let e : h.0 ≡ k.0 = some_same h.0 k.0 (sym h.1 ∙ k.1) in
+    let e : h.0 ≡ k.0 = same_Some h.0 k.0 (sym h.1 ∙ k.1) in
     h.2 ∙ ap (λ (kind : SourceKind). new_wrapper (record { name = name; kind = kind })) e ∙ sym k.2
 makes_once o user (create_server s) a b h k = h.2 ∙ ap new_server (server_once o s h.0 k.0 h.1 k.1) ∙ sym k.2
 makes_once o user (create_mapping m) a b h k = h.2 ∙ ap (new_mapping m.server) (mapping_once user m h.0 k.0 h.1 k.1) ∙ sym k.2
@@ -114,7 +110,7 @@ right_false false b e = e
 
 none_passes : {X : Type 0} (p : X → Bool) (xs : List X) (k : ℕ) (x : X) → list_any p xs ≡ false → slice_get xs k ≡ Some x → p x ≡ false
 none_passes p [] k x e at = absurd cc
-none_passes p (y ∷ ys) zero x e at = ap p (sym (some_same y x at)) ∙ left_false (p y) (list_any p ys) e
+none_passes p (y ∷ ys) zero x e at = ap p (sym (same_Some y x at)) ∙ left_false (p y) (list_any p ys) e
 none_passes p (y ∷ ys) (suc k) x e at = none_passes p ys k x (right_false (p y) (list_any p ys) e) at
 
 none_found : {X : Type 0} (p : X → Bool) (xs : List X) → list_any p xs ≡ false → find p xs ≡ None

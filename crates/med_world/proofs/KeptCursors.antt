@@ -2,9 +2,8 @@
 use Rattle.std.proofs.Common.{◌≡◌, List, Option, Some, Contains, ap, sym, ◌∙◌, subst}
 use Rattle.fdw_api.specs.State.{Scan, BoxState, scan_of}
 use Rattle.med_exec.specs.declared.running.Run.{Run}
-use Rattle.med_exec.specs.Running.{Held}
+use Rattle.med_exec.specs.Prelude.{Held, KeepTables}
 use Rattle.med_exec.specs.Rests.{held, IsRunning}
-use Rattle.med_exec.specs.Leaving.{KeepTables}
 use Rattle.med_exec.proofs.Leaving.{is_some_of}
 use Rattle.med_exec.proofs.Served.{box_inj}
 use Rattle.med_exec.proofs.Left.{run_is_held, held_is_live}

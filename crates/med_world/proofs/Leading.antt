@@ -1,34 +1,24 @@
 -- Requests lead to their replies: what every request shares, sessions, and statements on objects.
 use Rattle.std.proofs.Common.{◌≡◌, ◌≢◌, ℕ, ◌+◌, ◌-◌, ◌^◌, ◌<◌, ◌≤◌, ◌⊎◌, min, cond, Bool, true, false, List, [], Option, Some, None, option_map, refl, ap, sym, ◌∙◌, subst, arith, inl, inr}
 use Rattle.std.proofs.lemmas.Bool.{false≢true, cases_lt}
+use Rattle.std.proofs.lemmas.Option.{same_Some}
 use Rattle.med_value.specs.declared.cause.Cause.{Cause}
 use Rattle.med_value.specs.declared.cause.Cause.TheVariants.{UnableToConnect, OutOfMemory, SourceFault}
-use Rattle.med_syntax.specs.Tree.{Name}
-use Rattle.fdw_api.specs.Kinds.{Entry, Holding, Reading}
-use Rattle.fdw_api.specs.State.{BoxState}
-use Rattle.fdw_api.specs.Calls.{Picks, Binds, Unbinds, Refuses, RefusesBind, IsLeast}
+use Rattle.med_syntax.specs.Prelude.{Name, DdlTree}
+use Rattle.fdw_api.specs.Prelude.{Entry, Holding, Reading, BoxState, Picks, Binds, Unbinds, Refuses, RefusesBind, IsLeast}
 use Rattle.fdw_api.specs.declared.interface.Fault.TheVariants.{Source as SourceFailed, Refused}
-use Rattle.med_exec.specs.Slots.{ChangesAt}
-use Rattle.med_exec.specs.Running.{HasFailed}
-use Rattle.med_syntax.specs.DdlTree.{DdlTree}
-use Rattle.med_catalog.specs.Objects.{ServerObject, TableObject, Objects}
-use Rattle.med_catalog.specs.Changes.{changed, ObjectChange, nothing, new_wrapper, new_server, new_mapping, new_table, no_wrapper, no_server, no_mapping, no_table, Asks}
-use Rattle.med_catalog.specs.DdlCauses.{DdlCauses, phase}
-use Rattle.sql_meaning.specs.Requests.{AskedLine, sql}
+use Rattle.med_exec.specs.Prelude.{ChangesAt, HasFailed}
+use Rattle.med_catalog.specs.Prelude.{ServerObject, TableObject, Objects, changed, ObjectChange, nothing, new_wrapper, new_server, new_mapping, new_table, no_wrapper, no_server, no_mapping, no_table, Asks, DdlCauses, phase}
+use Rattle.sql_meaning.specs.Prelude.{AskedLine, sql, Pick, no_pick, World, Cursor, Session, standing, shared, dropped, source_named, is_taken, IsFree, Serves, is_shared_server, Reads, SourceCauses, ObjectCauses, TreeCauses, PicksEntry, IsPickOf, IsTold, NoneStands, NoneBeforeState, RestsOnShared, MayShow, done, refused}
 use Rattle.med_parser.specs.CommandTree.{CommandTree, on_objects}
 use Rattle.sql_meaning.specs.Steps.{ddl_tag, Trouble, TakesMemory, with_catalog, Changes, Step, is_refused, is_done, lacks_memory, source_fails, shared_shows}
-use Rattle.sql_meaning.specs.Picks.{Pick, no_pick}
 use Rattle.med_world.specs.Open.{Seated}
 use Rattle.med_world.specs.Seats.{seat_of, SeatAgrees}
-use Rattle.sql_meaning.specs.World.{World, Cursor, Session, standing, shared, dropped, source_named, is_taken, IsFree, Serves, is_shared_server}
-use Rattle.sql_meaning.specs.Causes.{Reads, SourceCauses, ObjectCauses, TreeCauses, PicksEntry, IsPickOf, IsTold, NoneStands, NoneBeforeState, RestsOnShared, MayShow}
-use Rattle.sql_meaning.specs.Replies.{done, refused}
 use Rattle.med_world.specs.Engine.{Rises, Shown, leased, IsSound, IsNamedAt, IsServerAt, Agrees, Befell, EachRises, AsksBoxes, Leads, with_change, Alters, state_of}
 use Rattle.med_world.specs.Laws.{IsRead}
 use Rattle.med_world.specs.Altering.{IsFreeAt, IsAllowed, SourcesAllow, IsAltered}
 use Rattle.med_world.proofs.Faring.{changes_by, changes_rise, rises_itself, none_rises, drop_rises, binds_rises, unbinds_rises}
 use Rattle.med_world.proofs.Altered.{catalog_agrees, bind_agrees, unbind_agrees, drop_agrees, serves_at, shared_at, one_store, find_source}
-use Rattle.med_world.proofs.Lists.{some_same}
 use Rattle.med_world.proofs.Asks.{asks_refused, asks_read}
 use Rattle.med_world.proofs.Kept.{free_to_drop}
 use Rattle.med_world.proofs.Told.{IsKnownAs, told_tree, none_tree, before_tree, run_before, pick_tree}
@@ -106,7 +96,7 @@ same_session : (boxes : List (Option BoxState)) (w : World) (user : Name) (seat 
 same_session boxes w user None s h e = absurd cc
 same_session boxes w user (Some seat) None h e = absurd h
 same_session boxes w user (Some seat) (Some s) h e =
-    let is : s.user ≡ user = h.0 ∙ some_same seat.user user e in
+    let is : s.user ≡ user = h.0 ∙ same_Some seat.user user e in
     ap (λ (n : Name). Some (record { user = n; cursors = s.cursors })) is
 
 -- what a statement's text and session give in every world that agrees

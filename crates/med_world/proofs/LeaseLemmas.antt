@@ -1,14 +1,11 @@
 -- What the catalogue tells of a statement on objects where nothing is leased, and what leases add to it: DROP of a leased table.
 use Rattle.std.proofs.Common.{◌≡◌, ℕ, ◌≤◌, ◌⊎◌, Bool, true, false, if◌then◌else◌, List, [], ◌∷◌, Some, Contains, slice_get, refl, ap, sym, ◌∙◌, zero, suc, inl, inr, arith}
 use Rattle.std.proofs.lemmas.Bool.{false≢true}
+use Rattle.std.proofs.lemmas.Option.{same_Some}
 use Rattle.med_value.specs.declared.cause.Cause.{Cause}
 use Rattle.med_value.specs.declared.cause.Cause.TheVariants.{InUse}
-use Rattle.med_syntax.specs.Tree.{Name}
-use Rattle.med_syntax.specs.DdlTree.{DdlTree, create_wrapper, create_server, create_mapping, create_table, drop_wrapper, drop_server, drop_table, drop_mapping}
-use Rattle.med_catalog.specs.Objects.{Objects}
-use Rattle.med_catalog.specs.Changes.{ObjectChange, no_table, is_skipped, Asks, skips, makes}
-use Rattle.med_catalog.specs.DdlCauses.{CauseRow, DdlCauses, Stands, lease_rows, nothing_leased, drop_table_rows, ddl_rows, phase, NoneStands, IsTold}
-use Rattle.med_world.proofs.Lists.{some_same}
+use Rattle.med_syntax.specs.Prelude.{Name, DdlTree, create_wrapper, create_server, create_mapping, create_table, drop_wrapper, drop_server, drop_table, drop_mapping}
+use Rattle.med_catalog.specs.Prelude.{Objects, ObjectChange, no_table, is_skipped, Asks, skips, makes, CauseRow, DdlCauses, Stands, lease_rows, nothing_leased, drop_table_rows, ddl_rows, phase, NoneStands, IsTold}
 use Rattle.med_world.proofs.NamedTables.{place_of, at_place}
 
 -- no cause of a statement on objects is of a later phase than leases are: a law of the catalogue
@@ -46,7 +43,7 @@ of_leases : (b : Bool) (c : Cause) → Contains (lease_rows b) (true, c) → (b 
 of_leases true c h = let p = place_of (lease_rows true) (true, c) h in (refl, split p.0 p.1)
   where
     split : (k : ℕ) → slice_get (lease_rows true) k ≡ Some (true, c) → c ≡ InUse
-    split zero at = sym (ap (λ (r : CauseRow). r.1) (some_same (true, InUse) (true, c) at))
+    split zero at = sym (ap (λ (r : CauseRow). r.1) (same_Some (true, InUse) (true, c) at))
     split (suc k) at = absurd cc
 of_leases false c h = absurd (none_in (true, c) h)
 

@@ -23,9 +23,6 @@ other_bytes a b h = false_from (bytes_eq a b) (λ t. h (bytes_same a b t))
 pub bytes_other : (a b : List ℕ) → bytes_eq a b ≡ false → a ≡ b → ⊥
 bytes_other a b f e = false≢true (sym f ∙ same_bytes a b e)
 
-pub some_same : {X : Type 0} (x y : X) → Some x ≡ Some y → x ≡ y
-some_same x y e = cc
-
 pub none_some : {X : Type 0} (x : X) (o : Option X) → o ≡ None → o ≡ Some x → ⊥
 none_some x o a b = absurd cc
 

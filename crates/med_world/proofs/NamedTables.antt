@@ -5,9 +5,9 @@ use Rattle.std.specs.List.{IsDistinct, AllByRecursion}
 use Rattle.std.proofs.lemmas.Bool.{false≢true}
 use Rattle.std.proofs.lemmas.List.{map-append}
 use Rattle.std.proofs.lemmas.List.Folds.{find-append}
-use Rattle.std.proofs.lemmas.Option.{slice_get-get_or}
+use Rattle.std.proofs.lemmas.Option.{slice_get-get_or, same_Some}
 use Rattle.med_catalog.specs.Changes.{without, with_first}
-use Rattle.med_world.proofs.Lists.{some_same, other_bytes, bytes_other, each_at}
+use Rattle.med_world.proofs.Lists.{other_bytes, bytes_other, each_at}
 
 -- ---- elements and their places
 
@@ -16,12 +16,12 @@ place_of xs x c = (c.0, slice_get-get_or xs c.0 x c.1 ∙ ap Some c.2)
 
 pub at_place : {X : Type 0} (xs : List X) (k : ℕ) (x : X) → slice_get xs k ≡ Some x → Contains xs x
 at_place [] k x at = absurd cc
-at_place (y ∷ ys) zero x at = (zero, omega arith, some_same y x at)
+at_place (y ∷ ys) zero x at = (zero, omega arith, same_Some y x at)
 at_place (y ∷ ys) (suc k) x at = let r = at_place ys k x at in (suc r.0, omega arith, r.2)
 
 pub map_place : {X Y : Type 0} (g : X → Y) (xs : List X) (k : ℕ) (x : X) → slice_get xs k ≡ Some x → slice_get (map g xs) k ≡ Some (g x)
 map_place g [] k x at = absurd cc
-map_place g (y ∷ ys) zero x at = ap Some (ap g (some_same y x at))
+map_place g (y ∷ ys) zero x at = ap Some (ap g (same_Some y x at))
 map_place g (y ∷ ys) (suc k) x at = map_place g ys k x at
 
 -- what is found is in its place
@@ -39,7 +39,7 @@ found_passes {X} test [] x e = absurd cc
 found_passes {X} test (y ∷ ys) x e = split (λ h. found_passes test ys x h) (test y) refl e
   where
     split : (find test ys ≡ Some x → test x ≡ true) → (b : Bool) → test y ≡ b → cond b (Some y) (find test ys) ≡ Some x → test x ≡ true
-    split rest true q h = ap test (sym (some_same y x h)) ∙ q
+    split rest true q h = ap test (sym (same_Some y x h)) ∙ q
     split rest false q h = rest h
 
 -- nothing is found, and so nothing later
@@ -65,7 +65,7 @@ distinct_push (n ∷ ns) name none h = (apart ns h.0, distinct_push ns name (λ 
 pub name_nowhere : {X : Type 0} (name : X → List ℕ) (n : List ℕ) (xs : List X) → find (λ x. bytes_eq n (name x)) xs ≡ None → (i : ℕ) → slice_get (map name xs) i ≡ Some n → ⊥
 name_nowhere name n [] none i at = absurd cc
 name_nowhere name n (x ∷ xs) none zero at =
-    bytes_other n (name x) (none_later (λ y. bytes_eq n (name y)) x xs none).0 (sym (some_same (name x) n at))
+    bytes_other n (name x) (none_later (λ y. bytes_eq n (name y)) x xs none).0 (sym (same_Some (name x) n at))
 name_nowhere name n (x ∷ xs) none (suc i) at = name_nowhere name n xs (none_later (λ y. bytes_eq n (name y)) x xs none).1 i at
 
 pub distinct_more : {X : Type 0} (name : X → List ℕ) (xs : List X) (x : X) → find (λ y. bytes_eq (name x) (name y)) xs ≡ None → IsDistinct bytes_eq (map name xs) → IsDistinct bytes_eq (map name (xs ++ x ∷ []))
@@ -105,9 +105,9 @@ find_first {X} {Y} p test f g keeps same [] a e = absurd cc
 find_first {X} {Y} p test f g keeps same (x ∷ xs) a e = split (λ h. find_first p test f g keeps same xs a h) (test x) (p x) refl e
   where
     split : (find p xs ≡ Some a → (now : X) × (find p (with_first test f xs) ≡ Some now) × (g now ≡ g a)) → (t b : Bool) → p x ≡ b → cond b (Some x) (find p xs) ≡ Some a → (now : X) × (find p (cond t (f x ∷ xs) (x ∷ with_first test f xs)) ≡ Some now) × (g now ≡ g a)
-    split rest true true q h = (f x, ap (λ c. cond c (Some (f x)) (find p xs)) (keeps x ∙ q), same x ∙ ap g (some_same x a h))
+    split rest true true q h = (f x, ap (λ c. cond c (Some (f x)) (find p xs)) (keeps x ∙ q), same x ∙ ap g (same_Some x a h))
     split rest true false q h = (a, ap (λ c. cond c (Some (f x)) (find p xs)) (keeps x ∙ q) ∙ h, refl)
-    split rest false true q h = (x, ap (λ c. cond c (Some x) (find p (with_first test f xs))) q, ap g (some_same x a h))
+    split rest false true q h = (x, ap (λ c. cond c (Some x) (find p (with_first test f xs))) q, ap g (same_Some x a h))
     split rest false false q h = let r = rest h in (r.0, ap (λ c. cond c (Some x) (find p (with_first test f xs))) q ∙ r.1, r.2)
 
 pub back_first : {X Y : Type 0} (test : X → Bool) (f : X → X) (g : X → Y) → ((x : X) → g (f x) ≡ g x) → (xs : List X) (k : ℕ) (s : X) → slice_get (with_first test f xs) k ≡ Some s
@@ -116,9 +116,9 @@ back_first {X} {Y} test f g same [] k s at = absurd cc
 back_first {X} {Y} test f g same (x ∷ xs) k s at = split (λ j h. back_first test f g same xs j s h) (test x) k at
   where
     split : ((j : ℕ) → slice_get (with_first test f xs) j ≡ Some s → (was : X) × (slice_get xs j ≡ Some was) × (g was ≡ g s)) → (b : Bool) (k : ℕ) → slice_get (cond b (f x ∷ xs) (x ∷ with_first test f xs)) k ≡ Some s → (was : X) × (slice_get (x ∷ xs) k ≡ Some was) × (g was ≡ g s)
-    split rest true zero h = (x, refl, sym (same x) ∙ ap g (some_same (f x) s h))
+    split rest true zero h = (x, refl, sym (same x) ∙ ap g (same_Some (f x) s h))
     split rest true (suc k) h = (s, h, refl)
-    split rest false zero h = (x, refl, ap g (some_same x s h))
+    split rest false zero h = (x, refl, ap g (same_Some x s h))
     split rest false (suc k) h = rest k h
 
 -- ---- the first that passes is gone
@@ -150,10 +150,10 @@ none_left {X} name test (x ∷ xs) a h found k s at = split (λ e j l. none_left
     apart j y there same = bytes_other (name x) (name y) (each_at (λ z. bytes_eq (name x) z ≡ false) (map name xs) j (name y) h.0 (map_place name xs j y there)) same
 
     split : (find test xs ≡ Some a → (j : ℕ) → slice_get (without test xs) j ≡ Some s → name s ≢ name a) → (b : Bool) → test x ≡ b → cond b (Some x) (find test xs) ≡ Some a → (k : ℕ) → slice_get (cond b xs (x ∷ without test xs)) k ≡ Some s → name s ≢ name a
-    split rest true q e k l same = apart k s l (ap name (some_same x a e) ∙ sym same)
+    split rest true q e k l same = apart k s l (ap name (same_Some x a e) ∙ sym same)
     split rest false q e zero l same =
         let there = found_place test xs a e in
-        apart there.0 a there.1 (ap name (some_same x s l) ∙ same)
+        apart there.0 a there.1 (ap name (same_Some x s l) ∙ same)
     split rest false q e (suc k) l same = rest e k l same
 
 -- ---- one more

@@ -6,18 +6,11 @@ use Rattle.std.proofs.lemmas.List.Sums.{AllPass-from_list_all}
 use Rattle.med_value.specs.Causes.{phase_of}
 use Rattle.med_value.specs.declared.cause.Cause.{Cause}
 use Rattle.med_value.specs.declared.cause.Cause.TheVariants.{Protocol}
-use Rattle.med_syntax.specs.Tree.{Name}
-use Rattle.fdw_api.specs.Kinds.{Kind, Entry, Held, Reading, is_late}
-use Rattle.fdw_api.specs.Calls.{IsLeast}
-use Rattle.med_syntax.specs.DdlTree.{DdlTree}
-use Rattle.med_catalog.specs.Objects.{TableObject, Objects}
-use Rattle.med_catalog.specs.Changes.{ObjectChange, nothing, new_wrapper, new_server, new_mapping, new_table, no_wrapper, no_server, no_mapping, no_table, Asks}
-use Rattle.med_catalog.specs.DdlCauses.{DdlCauses, phase}
-use Rattle.sql_meaning.specs.Picks.{Pick}
-use Rattle.sql_meaning.specs.World.{World, is_shared_server, is_leased}
-use Rattle.sql_meaning.specs.Causes.{Reads, SourceCauses, ObjectCauses}
+use Rattle.med_syntax.specs.Prelude.{Name, DdlTree}
+use Rattle.fdw_api.specs.Prelude.{Kind, Entry, Held, Reading, is_late, IsLeast}
+use Rattle.med_catalog.specs.Prelude.{TableObject, Objects, ObjectChange, nothing, new_wrapper, new_server, new_mapping, new_table, no_wrapper, no_server, no_mapping, no_table, Asks, DdlCauses, phase}
+use Rattle.sql_meaning.specs.Prelude.{Pick, World, is_shared_server, is_leased, Reads, SourceCauses, ObjectCauses, HasRows, as_read, any_rows}
 use Rattle.med_world.specs.Engine.{Shown, leased, IsSound, Agrees}
-use Rattle.sql_meaning.specs.Steps.{HasRows, as_read, any_rows}
 use Rattle.med_world.proofs.Altered.{one_kind, none_serves}
 use Rattle.med_world.proofs.Seats.{leases_same}
 

@@ -1,6 +1,7 @@
 -- The box that the run of a cursor over one table asks: that of a table which the cursor leases.
 use Rattle.std.proofs.Common.{◌≡◌, ◌∙◌, ◌+◌, ℕ, ◌-◌, List, Option, Some, Contains, ap, sym, refl, subst}
-use Rattle.med_syntax.specs.Tree.{Name}
+use Rattle.std.proofs.lemmas.Option.{same_Some}
+use Rattle.med_syntax.specs.Prelude.{Name, CountTree, some_rows, all_rows}
 use Rattle.fdw_api.specs.State.{BoxState, scan_of}
 use Rattle.scan_loops.specs.Running.{source_at, number_at}
 use Rattle.scan_loops.proofs.OwnLemmas.{held_of_levels}
@@ -11,12 +12,11 @@ use Rattle.med_exec.specs.Pulling.{levels_left, levels_in, slot_in, skip_in, Pul
 use Rattle.med_exec.specs.Rests.{scans_of, IsGood, held, IsRunning}
 use Rattle.med_exec.proofs.Leaving.{is_some_of}
 use Rattle.med_exec.proofs.Left.{run_is_held, held_is_live}
-use Rattle.med_syntax.specs.CursorTree.{CountTree, some_rows, all_rows}
 use Rattle.med_world.specs.Open.{Opened, Seated, opened_named}
 use Rattle.med_world.specs.Fetching.{IsWithin}
 use Rattle.med_world.specs.Seats.{seat_of, opened_in, IsOpenAt}
 use Rattle.med_world.specs.Engine.{Shown, LeasesNumber, IsSound, GivesWithin}
-use Rattle.med_world.proofs.Lists.{some_same, same_bytes}
+use Rattle.med_world.proofs.Lists.{same_bytes}
 use Rattle.med_world.proofs.Plainest.{fewer}
 use Rattle.med_world.proofs.CursorLists.{named_one}
 use Rattle.med_world.proofs.CursorSeats.{open_here, is_here, name_of, has_of, old_seat}
@@ -56,7 +56,7 @@ module _ (e : Shown) (sid : ℕ) (seat : Seated) (sound : IsSound e) (at : seat_
     slot = slot_in o.run;
     few = fewer (slot_in o.run) times n (skip_in o.run) e.boxes new within bare.1 most;
     own = λ more c there.
-        let is : o ≡ c = some_same o c (sym (ap (opened_in name) at ∙ here) ∙ there) in
+        let is : o ≡ c = same_Some o c (sym (ap (opened_in name) at ∙ here) ∙ there) in
         let b = own_box bare.0 in
         (b.0, subst (λ (x : Opened). LeasesNumber e.catalog.tables e.bound x (slot_in o.run) b.0) is b.1);
   }

@@ -8,19 +8,12 @@ use Rattle.std.proofs.lemmas.Bool.{false≢true}
 use Rattle.std.proofs.lemmas.Bool.Decides.{eqb_tells}
 use Rattle.med_value.specs.Causes.{phase_of}
 use Rattle.med_value.specs.declared.cause.Cause.{Cause}
-use Rattle.med_syntax.specs.Tree.{Name}
-use Rattle.med_syntax.specs.QueryTree.{EntryTree, SelectTree, StatementTree, select}
-use Rattle.bind_names.specs.Scope.{TableShape, query_entries}
-use Rattle.bind_names.specs.Naming.{NameCauses}
+use Rattle.med_syntax.specs.Prelude.{Name, EntryTree, SelectTree, StatementTree, select, DdlTree}
+use Rattle.bind_names.specs.Prelude.{TableShape, query_entries, NameCauses}
 use Rattle.bind_types.specs.Typing.{TypeCauses}
-use Rattle.med_syntax.specs.DdlTree.{DdlTree}
-use Rattle.med_catalog.specs.Objects.{TableObject, Objects, table_named}
-use Rattle.med_catalog.specs.Rights.{mode_for}
+use Rattle.med_catalog.specs.Prelude.{TableObject, Objects, table_named, mode_for, DdlCauses, phase}
 use Rattle.med_catalog.specs.declared.kind.Mode.{Mode}
-use Rattle.med_catalog.specs.DdlCauses.{DdlCauses, phase}
-use Rattle.med_binder.specs.Tables.{shapes}
-use Rattle.med_binder.specs.Barred.{reading_causes, table_causes, query_right_causes}
-use Rattle.med_binder.specs.Queries.{QueryNames}
+use Rattle.med_binder.specs.Prelude.{shapes, reading_causes, table_causes, query_right_causes, QueryNames}
 use Rattle.med_world.proofs.Kept.{asks_once}
 use Rattle.med_world.proofs.Objecting.{AreObjects}
 use Rattle.med_world.proofs.Querying.{ArePhased}

@@ -1,16 +1,9 @@
 -- Something can always be picked, and what a world's source is in the engine.
 use Rattle.std.proofs.Common.{◌≡◌, ℕ, Bool, true, false, cond, List, [], ◌∷◌, Option, Some, None, slice_get, refl, ap, sym, ◌∙◌, subst, suc, unwrap_or, bytes_eq}
-use Rattle.med_syntax.specs.Tree.{Name}
-use Rattle.fdw_api.specs.Kinds.{Kind, Entry, Holding, Known, Unknown}
-use Rattle.fdw_api.specs.State.{BoxState}
-use Rattle.fdw_api.specs.Calls.{Picks}
-use Rattle.med_syntax.specs.DdlTree.{TableTree, DdlTree, create_wrapper, create_server, create_mapping, create_table, drop_wrapper, drop_server, drop_table, drop_mapping}
-use Rattle.med_catalog.specs.Objects.{ServerObject, TableObject, Objects, server_named}
-use Rattle.med_catalog.specs.Options.{text_of, remote_label}
-use Rattle.med_catalog.specs.Changes.{new_table, Makes, Asks, skips, makes}
-use Rattle.sql_meaning.specs.Picks.{Pick, no_pick}
-use Rattle.sql_meaning.specs.World.{World, Source, SourceState, standing, shared, dropped, source_named, is_taken, IsFree, Serves}
-use Rattle.sql_meaning.specs.Causes.{PicksEntry}
+use Rattle.med_syntax.specs.Prelude.{Name, TableTree, DdlTree, create_wrapper, create_server, create_mapping, create_table, drop_wrapper, drop_server, drop_table, drop_mapping}
+use Rattle.fdw_api.specs.Prelude.{Kind, Entry, Holding, Known, Unknown, BoxState, Picks}
+use Rattle.med_catalog.specs.Prelude.{ServerObject, TableObject, Objects, server_named, text_of, remote_label, new_table, Makes, Asks, skips, makes}
+use Rattle.sql_meaning.specs.Prelude.{Pick, no_pick, World, Source, SourceState, standing, shared, dropped, source_named, is_taken, IsFree, Serves, PicksEntry}
 use Rattle.med_world.specs.Engine.{Label, Shown, state_of, sources_of, Agrees}
 use Rattle.med_world.specs.Altering.{IsFreeAt}
 use Rattle.med_world.proofs.Lists.{bytes_same}

@@ -1,9 +1,7 @@
 -- The plainest queries: what their form is, and how few rows a FETCH of theirs has a box give.
 use Rattle.std.proofs.Common.{◌≡◌, ◌∙◌, ℕ, ◌+◌, ◌≤◌, Bool, true, false, cond, nat_eq, List, [], ◌∷◌, Option, Some, None, option_map, map, refl, ap, sym, subst, arith}
-use Rattle.tri_expr.specs.Tree.{Tree}
-use Rattle.tri_expr.specs.Meaning.{means}
-use Rattle.med_query.specs.Query.{Chain, Table, Core}
-use Rattle.med_query.specs.Form.{JoinForm, cross_form, inner_form, left_form, ChainForm, GroupForm, CoreForm, Form, join_by, joins_by, chain_by, group_by, core_by, query_by}
+use Rattle.tri_expr.specs.Prelude.{Tree, means}
+use Rattle.med_query.specs.Prelude.{Chain, Table, Core, JoinForm, cross_form, inner_form, left_form, ChainForm, GroupForm, CoreForm, Form, join_by, joins_by, chain_by, group_by, core_by, query_by}
 use Rattle.med_planner.specs.Plain.{IsBareForm}
 use Rattle.fdw_api.specs.State.{BoxState}
 use Rattle.med_exec.specs.declared.running.Run.{Run}

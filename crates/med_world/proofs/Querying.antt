@@ -2,45 +2,32 @@
 use Rattle.std.proofs.Common.{◌≡◌, ℕ, ◌≤◌, Bool, true, false, List, [], ◌∷◌, Option, Some, slice_get, map, codes, refl, ap, sym, ◌∙◌, subst, arith, inl, inr, zero, suc, IsPermutation}
 use Rattle.std.proofs.lemmas.Bool.{false≢true}
 use Rattle.std.proofs.lemmas.List.Sorted.{IsPermutation-refl, IsPermutation-map}
-use Rattle.med_value.specs.Datum.{Tuple}
+use Rattle.std.proofs.lemmas.Option.{same_Some}
+use Rattle.med_value.specs.Prelude.{Tuple, phase_of}
 use Rattle.med_value.specs.declared.cause.Cause.{Cause}
 use Rattle.med_value.specs.declared.cause.Cause.TheVariants.{SourceFault, OutOfMemory}
-use Rattle.med_syntax.specs.Tree.{Name}
-use Rattle.med_syntax.specs.QueryTree.{SelectTree, select}
+use Rattle.med_syntax.specs.Prelude.{Name, SelectTree, select}
 use Rattle.tri_expr.specs.declared.expr.Fault.TheVariants.{Range, Zero}
-use Rattle.med_query.specs.Query.{Tables, SameRows, IsAnswer}
-use Rattle.fdw_api.specs.Kinds.{Held, held, is_of_run}
-use Rattle.med_value.specs.Causes.{phase_of}
-use Rattle.fdw_api.specs.Scan.{TableRow}
-use Rattle.fdw_api.specs.State.{BoxState, is_honest, rows_of}
-use Rattle.med_binder.specs.Place.{Place}
-use Rattle.med_query.specs.Causes.{IsShownCause}
+use Rattle.med_query.specs.Prelude.{Tables, SameRows, IsAnswer, IsShownCause}
+use Rattle.fdw_api.specs.Prelude.{Held, held, is_of_run, TableRow, BoxState, is_honest, rows_of}
+use Rattle.med_binder.specs.Prelude.{Place, QueryNames, QueryTypes, meant_by, IsBindable, NotBound, Attached, IsPlaceOf, ArePlaces}
 use Rattle.med_planner.specs.Planned.{tuples_of, rows_shown, entry_rows}
-use Rattle.med_exec.specs.Slots.{BoxAt}
-use Rattle.med_exec.specs.Running.{SlotShows, HasFailed, HonestAt, HonestOver}
+use Rattle.med_exec.specs.Prelude.{BoxAt, SlotShows, HasFailed, HonestAt, HonestOver}
 use Rattle.bind_names.specs.Meaning.{Meant}
-use Rattle.med_catalog.specs.Objects.{Objects}
-use Rattle.med_binder.specs.Queries.{QueryNames, QueryTypes, meant_by, IsBindable, NotBound}
-use Rattle.med_binder.specs.Places.{Attached, IsPlaceOf, ArePlaces}
-use Rattle.sql_meaning.specs.Sizes.{is_large_form}
-use Rattle.sql_meaning.specs.Requests.{sql}
+use Rattle.med_catalog.specs.Prelude.{Objects, phase}
+use Rattle.sql_meaning.specs.Prelude.{is_large_form, sql, no_pick, World, cells_of, rows_of_place, answered, refused}
 use Rattle.med_parser.specs.CommandTree.{on_data}
-use Rattle.sql_meaning.specs.Picks.{no_pick}
-use Rattle.sql_meaning.specs.World.{World, cells_of, rows_of_place}
 use Rattle.sql_meaning.specs.Causes.{query_of, entry_tables, meant_over, entries_in, reads_shared, QueryState, QueryRun, SelectCauses, IsPickOf}
-use Rattle.sql_meaning.specs.Replies.{answered, refused}
 use Rattle.sql_meaning.specs.Steps.{Step, is_refused, is_done, source_fails}
 use Rattle.med_world.specs.Engine.{Shown, IsSound, AreRowsOf, RowsAgree, Agrees, EachRises, Leads}
 use Rattle.med_world.specs.Selecting.{Selects}
 use Rattle.med_world.specs.Laws.{IsRead}
-use Rattle.med_world.proofs.Lists.{some_same}
 use Rattle.med_world.proofs.NamedTables.{place_of, at_place}
 use Rattle.med_world.proofs.Sharing.{query_honest}
 use Rattle.med_world.proofs.Faring.{none_rises}
 use Rattle.med_world.proofs.Asks.{asks_refused, asks_read}
 use Rattle.med_world.proofs.Told.{told_tree, none_tree, before_tree, pick_tree}
 use Rattle.med_world.proofs.Leading.{calm, calm_befell, calm_unasked, session_in, known, leads_either, leads_refused, leads_memory, shared_step}
-use Rattle.med_catalog.specs.DdlCauses.{phase}
 
 -- a cause of names or rights is of phase 3, and one of types of phase 4: laws of the binder
 pub record ArePhased : Type 0 where
@@ -97,7 +84,7 @@ rows_agree : (boxes : List (Option BoxState)) (bound : List Attached) (rows : Li
 rows_agree boxes [] [] k a h at = absurd cc
 rows_agree boxes [] (r ∷ rs) k a h at = absurd h
 rows_agree boxes (b ∷ bs) [] k a h at = absurd h
-rows_agree boxes (b ∷ bs) (r ∷ rs) zero a h at = subst (λ (x : Attached). BoxAt boxes x.source (λ s. is_honest s → IsPermutation (tuples_of s x.number) (cells_of r))) (some_same b a at) (row_agrees boxes b r h.0)
+rows_agree boxes (b ∷ bs) (r ∷ rs) zero a h at = subst (λ (x : Attached). BoxAt boxes x.source (λ s. is_honest s → IsPermutation (tuples_of s x.number) (cells_of r))) (same_Some b a at) (row_agrees boxes b r h.0)
 rows_agree boxes (b ∷ bs) (r ∷ rs) (suc k) a h at = rows_agree boxes bs rs k a h.1 at
 
 place_rows : (boxes : List (Option BoxState)) (bound : List Attached) (rows : List (List Held)) (k : ℕ) (p : Place) → HonestAt boxes p.source → RowsAgree boxes bound rows → IsPlaceOf bound k p → IsPermutation (rows_shown (slice_get boxes p.source) p.table) (rows_of_place rows k)

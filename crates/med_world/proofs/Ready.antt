@@ -1,13 +1,12 @@
 -- What the calls of boxes ask holds in an engine that is sound.
 use Rattle.std.proofs.Common.{◌≡◌, ◌≢◌, ℕ, false, [], Option, Some, IsSome, slice_get, refl, ap, sym, ◌∙◌, subst}
+use Rattle.std.proofs.lemmas.Option.{same_Some}
 use Rattle.med_syntax.specs.Tree.{Name}
-use Rattle.fdw_api.specs.State.{BoxState, BoxTable, table_of}
-use Rattle.fdw_api.specs.Calls.{CanBind, CanUnbind}
+use Rattle.fdw_api.specs.Prelude.{BoxState, BoxTable, table_of, CanBind, CanUnbind}
 use Rattle.med_exec.specs.Slots.{BoxAt}
 use Rattle.med_catalog.specs.Objects.{ServerObject, TableObject, Objects, server_named}
 use Rattle.med_binder.specs.Places.{Attached}
 use Rattle.med_world.specs.Engine.{Label, Shown, leased, IsServerAt, IsBoundAs, IsAmong, IsSound}
-use Rattle.med_world.proofs.Lists.{some_same}
 use Rattle.med_world.proofs.Faring.{same_box}
 use Rattle.med_world.proofs.Scans.{unleased_scan}
 use Rattle.med_world.proofs.Altered.{has_table}
@@ -34,11 +33,11 @@ bind_ready e t place box sound once server there unbound takes = record { free =
 
         of_table : IsBoundAs e u.0 among.at → ⊥
         of_table x =
-            let one : x.server.source.0 ≡ server.source.0 = some_same x.server.source.0 server.source.0 (sym x.server.source.1 ∙ ap (slice_get e.labels) among.source_is ∙ server.source.1) in
+            let one : x.server.source.0 ≡ server.source.0 = same_Some x.server.source.0 server.source.0 (sym x.server.source.1 ∙ ap (slice_get e.labels) among.source_is ∙ server.source.1) in
             let sources : x.server.at.source ≡ server.at.source = sym x.server.source.2 ∙ ap (λ (l : Label). l.name) one ∙ server.source.2 in
             let servers : u.0.server ≡ t.server = once x.server.at server.at u.0.server t.server x.server.is server.is sources in
             let boxes : x.box ≡ box = same_box x.box box (sym x.there ∙ ap (slice_get e.boxes) among.source_is ∙ there) in
-            let bounds : x.bound ≡ b = some_same x.bound b (sym x.is ∙ ap (λ (y : BoxState). table_of y among.at.number) boxes ∙ ap (table_of box) among.number_is ∙ is) in
+            let bounds : x.bound ≡ b = same_Some x.bound b (sym x.is ∙ ap (λ (y : BoxState). table_of y among.at.number) boxes ∙ ap (table_of box) among.number_is ∙ is) in
             unbound u.0 among.place u.1 servers (sym x.remote ∙ ap (λ (y : BoxTable). y.remote) bounds ∙ same)
 
 -- a bound table that is not leased may be unbound, since no scan of it is live

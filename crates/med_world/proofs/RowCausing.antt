@@ -6,23 +6,19 @@ use Rattle.std.proofs.lemmas.List.Elements.{All-contains}
 use Rattle.std.proofs.lemmas.List.Sums.{AllPass-from_list_all}
 use Rattle.med_value.specs.Causes.{phase_of}
 use Rattle.med_value.specs.declared.cause.Cause.{Cause}
-use Rattle.med_syntax.specs.Tree.{Name}
-use Rattle.med_syntax.specs.QueryTree.{SelectTree}
-use Rattle.med_syntax.specs.WriteTree.{GivenTree, values, rows_of, WriteTree, insert, update, delete}
+use Rattle.med_syntax.specs.Prelude.{Name, SelectTree, GivenTree, values, rows_of, WriteTree, insert, update, delete}
 use Rattle.tri_expr.specs.declared.expr.Fault.TheVariants.{Range, Zero}
 use Rattle.fdw_api.specs.Kinds.{is_of_run}
-use Rattle.med_catalog.specs.Objects.{Objects}
+use Rattle.med_catalog.specs.Prelude.{Objects, phase}
 use Rattle.bind_write.specs.Meaning.{target_of}
 use Rattle.bind_write.specs.Naming.{WriteNames}
 use Rattle.bind_write.specs.Typing.{WriteTypes}
 use Rattle.bind_write.specs.Binding.{IsBindable}
-use Rattle.sql_meaning.specs.Picks.{Pick}
-use Rattle.sql_meaning.specs.World.{World}
+use Rattle.sql_meaning.specs.Prelude.{Pick, World}
 use Rattle.sql_meaning.specs.Causes.{OfGiven, OfQuery, QueryState, WriteState, WriteRun, has_fault, lacks_value, is_refused, query_shows, RowCauses, IsRefused}
 use Rattle.med_world.specs.Engine.{Shown, Agrees, leased, IsSound}
 use Rattle.med_world.proofs.Seats.{leases_same}
 use Rattle.med_world.proofs.Querying.{state_phase, run_phase}
-use Rattle.med_catalog.specs.DdlCauses.{phase}
 
 -- ---- the query of an INSERT
 

@@ -2,14 +2,10 @@
 use Rattle.std.proofs.Common.{◌≡◌, ◌<◌, ◌≤◌, ◌⊎◌, ℕ, true}
 use Rattle.med_value.specs.declared.cause.Cause.{Cause}
 use Rattle.med_value.specs.declared.cause.Cause.TheVariants.{LimitExceeded, OutOfMemory, SourceFault}
-use Rattle.med_syntax.specs.Tree.{Name}
-use Rattle.med_syntax.specs.WriteTree.{WriteTree}
+use Rattle.med_syntax.specs.Prelude.{Name, WriteTree}
 use Rattle.med_parser.specs.CommandTree.{on_rows}
 use Rattle.med_exec.specs.Running.{SlotShows, HasFailed, IsUsedUp}
-use Rattle.sql_meaning.specs.Picks.{Pick}
-use Rattle.sql_meaning.specs.World.{World}
-use Rattle.sql_meaning.specs.Causes.{OfQuery, reads_shared, writes_shared, RowCauses, IsRowPick, MayShow}
-use Rattle.sql_meaning.specs.Steps.{WritesIn}
+use Rattle.sql_meaning.specs.Prelude.{Pick, World, OfQuery, reads_shared, writes_shared, RowCauses, IsRowPick, MayShow, WritesIn}
 use Rattle.med_world.specs.Engine.{Shown, Agrees, EachRises}
 use Rattle.med_catalog.specs.DdlCauses.{phase}
 

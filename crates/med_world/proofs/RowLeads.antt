@@ -1,28 +1,22 @@
 -- A write leads to its tag or its refusal in each world that agrees, and leaves an engine sound.
 use Rattle.std.proofs.Common.{◌≡◌, ℕ, ◌≤◌, ◌⊎◌, Bool, true, false, List, [], Option, Some, IsPermutation, slice_get, ◌+◌, refl, ap, sym, ◌∙◌, subst, arith, inl, inr}
-use Rattle.med_value.specs.Datum.{Tuple}
+use Rattle.med_value.specs.Prelude.{Tuple, phase_of}
 use Rattle.med_value.specs.declared.cause.Cause.{Cause}
 use Rattle.med_value.specs.declared.cause.Cause.TheVariants.{LimitExceeded, InUse}
-use Rattle.med_syntax.specs.Tree.{Name}
-use Rattle.med_syntax.specs.QueryTree.{SelectTree}
+use Rattle.med_syntax.specs.Prelude.{Name, SelectTree, GivenTree, values, rows_of, WriteTree, insert, update, delete}
 use Rattle.med_parser.specs.CommandTree.{on_rows}
-use Rattle.med_value.specs.Causes.{phase_of}
-use Rattle.fdw_api.specs.Kinds.{is_of_run}
-use Rattle.med_syntax.specs.WriteTree.{GivenTree, values, rows_of, WriteTree, insert, update, delete}
+use Rattle.fdw_api.specs.Prelude.{is_of_run, GivenRow}
 use Rattle.tri_expr.specs.declared.expr.Fault.TheVariants.{Range, Zero}
 use Rattle.tri_expr.specs.declared.expr.EvalFault.TheVariants.{OutOfRange, ZeroDivisor, NoMemory as WantsMemory}
-use Rattle.med_query.specs.Query.{Tables, SameRows}
-use Rattle.fdw_api.specs.Scan.{GivenRow}
+use Rattle.med_query.specs.Prelude.{Tables, SameRows, IsShownCause}
 use Rattle.fdw_api.specs.State.{BoxState, Ledger, is_honest, rows_of as rows_in_box}
 use Rattle.fdw_api.specs.declared.interface.Fault.TheVariants.{Source}
 use Rattle.med_exec.specs.Running.{AllServed, SlotShows, HasFailed, IsUsedUp, HonestOver, Breaks, wants_memory, box_breaks, none_held}
 use Rattle.med_exec.proofs.Served.{all_served, all_on, change_served, before_service, breaks_between}
-use Rattle.med_query.specs.Causes.{IsShownCause}
 use Rattle.med_planner.specs.Planned.{entry_rows}
-use Rattle.med_catalog.specs.Objects.{Objects}
+use Rattle.med_catalog.specs.Prelude.{Objects, phase}
 use Rattle.bind_names.specs.Meaning.{Meant}
-use Rattle.med_binder.specs.Places.{Attached}
-use Rattle.med_binder.specs.Queries.{meant_by}
+use Rattle.med_binder.specs.Prelude.{Attached, meant_by}
 use Rattle.med_write.specs.declared.write.WriteFault.{WriteFault}
 use Rattle.med_write.specs.declared.write.WriteFault.TheVariants.{Evaluation, NotNull}
 use Rattle.med_write.specs.Form.{WriteForm}
@@ -34,11 +28,8 @@ use Rattle.bind_write.specs.Naming.{WriteNames}
 use Rattle.bind_write.specs.Typing.{WriteTypes}
 use Rattle.bind_write.specs.Binding.{IsBindable, NotBound}
 use Rattle.med_world.specs.Fetching.{cause_of}
-use Rattle.sql_meaning.specs.Picks.{Pick, no_pick, has_none}
-use Rattle.sql_meaning.specs.World.{World, cells_of, rows_of_place}
+use Rattle.sql_meaning.specs.Prelude.{Pick, no_pick, has_none, World, cells_of, rows_of_place, is_large_form, Writes, WritesIn, is_written, is_unseen}
 use Rattle.sql_meaning.specs.Causes.{query_of, entry_tables, meant_over, entries_in, reads_shared, QueryState, QueryRun, OfGiven, OfQuery, write_over, rows_held, writes_shared, WriteState, query_shows, IsRowPick, PicksWrite, MayShow}
-use Rattle.sql_meaning.specs.Sizes.{is_large_form}
-use Rattle.sql_meaning.specs.Steps.{Writes, WritesIn, is_written, is_unseen}
 use Rattle.med_world.specs.Engine.{Shown, leased, IsSound, Agrees}
 use Rattle.med_world.specs.Starting.{RunFails, no_memory, box_fails, numbers_out, shows_cause}
 use Rattle.med_world.specs.Writing.{FailsQuery, IsUntyped, columns_for, form_for, IsTargetAt, WritesRows, RefusesRows, WriteFails, not_bound, in_use, too_many, query_fails, box_refuses, rows_untyped}
@@ -55,7 +46,6 @@ use Rattle.med_world.proofs.Sharing.{query_honest}
 use Rattle.med_world.proofs.TargetRows.{first_from, first_table}
 use Rattle.med_world.proofs.RowCausing.{of_query, WritesPhased, row_phase, row_from_types, row_from_state, row_from_run, none_row, writable_in, none_state, write_run_phase}
 use Rattle.med_world.proofs.RowPicks.{PicksOne, given_served, answer_picked, query_clear, query_few, form_same, RunsClear, RunShows, done_clear, unseen_clear, kind_told, Shows, shows_told, some_write, fault_in, lack_in}
-use Rattle.med_catalog.specs.DdlCauses.{phase}
 
 -- ---- done
 

@@ -3,41 +3,31 @@ use Rattle.std.proofs.Common.{◌≡◌, ℕ, ◌⊎◌, true, false, List, [], 
 use Rattle.std.specs.List.{IsDistinct}
 use Rattle.std.proofs.lemmas.Bool.{false≢true}
 use Rattle.std.proofs.lemmas.List.Sorted.{Contains-permutation, IsPermutation-refl}
+use Rattle.std.proofs.lemmas.Option.{same_Some}
 use Rattle.med_value.specs.Datum.{Tuple}
 use Rattle.med_value.specs.declared.cause.Cause.{Cause}
 use Rattle.med_value.specs.declared.cause.Cause.TheVariants.{NotNull as NullGiven}
-use Rattle.med_syntax.specs.Tree.{Name}
-use Rattle.med_syntax.specs.QueryTree.{SelectTree}
-use Rattle.med_syntax.specs.WriteTree.{GivenTree, values, rows_of, WriteTree, insert, update, delete}
+use Rattle.med_syntax.specs.Prelude.{Name, SelectTree, GivenTree, values, rows_of, WriteTree, insert, update, delete}
 use Rattle.tri_expr.specs.declared.expr.Fault.{Fault as Wrong}
 use Rattle.tri_expr.specs.Verdict.{fault_list}
 use Rattle.tri_expr.proofs.Shuffled.{Shuffled, back, to_swaps, each_mapped, none_left}
-use Rattle.med_query.specs.Query.{IsAnswer}
-use Rattle.fdw_api.specs.Kinds.{Kind, Holding, held, Change, Refusals}
-use Rattle.fdw_api.specs.Scan.{TableRow, GivenRow}
+use Rattle.med_query.specs.Prelude.{IsAnswer, IsShownCause, wrong_cause}
+use Rattle.fdw_api.specs.Prelude.{Kind, Holding, held, Change, Refusals, TableRow, GivenRow, Picks, Written}
 use Rattle.fdw_api.specs.State.{BoxTable, BoxState, is_honest, rows_of as rows_in_box}
-use Rattle.fdw_api.specs.Calls.{Picks}
-use Rattle.fdw_api.specs.Writes.{Written}
-use Rattle.med_exec.specs.Running.{AllServed}
+use Rattle.med_exec.specs.Prelude.{AllServed, AreRead, KindRefuses}
 use Rattle.med_exec.proofs.Served.{all_served}
-use Rattle.med_query.specs.Causes.{IsShownCause, wrong_cause}
 use Rattle.med_catalog.specs.Objects.{TableObject, Objects, table_named}
 use Rattle.bind_names.specs.Meaning.{Meant}
-use Rattle.med_binder.specs.Places.{Attached}
-use Rattle.med_binder.specs.Queries.{meant_by}
-use Rattle.med_binder.specs.Tables.{shapes}
+use Rattle.med_binder.specs.Prelude.{Attached, meant_by, shapes}
 use Rattle.med_write.specs.declared.write.WrittenColumn.{WrittenColumn}
 use Rattle.med_write.specs.Form.{WriteForm}
 use Rattle.med_write.specs.Writing.{chosen_by, choice_faults, rows_written, write_faults, write_lacks, changes_of}
 use Rattle.med_write.specs.Making.{cells_of as cells_given}
-use Rattle.med_exec.specs.Writing.{AreRead, KindRefuses}
 use Rattle.bind_write.specs.Meaning.{target_of, columns_in, written_column, write_meant}
-use Rattle.sql_meaning.specs.Picks.{Pick, no_pick, PicksAnswer, answers, as_given}
-use Rattle.sql_meaning.specs.World.{World, Serves, is_shared, cells_of, rows_of_place}
+use Rattle.sql_meaning.specs.Prelude.{Pick, no_pick, PicksAnswer, answers, as_given, World, Serves, is_shared, cells_of, rows_of_place}
 use Rattle.sql_meaning.specs.Causes.{query_of, entry_tables, meant_over, entries_in, reads_shared, QueryState, QueryRun, OfGiven, OfQuery, write_over, columns_over, rows_held, writes_shared, IsTarget, IsRefused, WriteRun, has_fault, lacks_value, is_refused, query_shows, PicksEntry, PicksWrite}
 use Rattle.med_world.specs.Engine.{Shown, IsSound, Agrees}
 use Rattle.med_world.specs.Writing.{GivesAnswer, GivesRows, IsGiven, columns_for, form_for, IsTargetAt}
-use Rattle.med_world.proofs.Lists.{some_same}
 use Rattle.med_world.proofs.Altered.{one_store, one_kind, none_serves}
 use Rattle.med_world.proofs.Sharing.{query_honest}
 use Rattle.med_world.proofs.Picking.{pick_of, picks_pick}
@@ -116,7 +106,7 @@ query_few e w (delete d) answer now a h x = x
 pub picks_write : (e : Shown) (w : World) (t : WriteTree) (at : Attached) (b : BoxState) → IsSound e → Agrees e w → slice_get e.boxes at.source ≡ Some (Some b) → (x : TargetIn e t at b) → (p : Pick) → Picks (b.content.holdings x.table.remote) p.entry
     → p.rows ≡ rows_in_box b at.number → IsPermutation (map as_given p.rows) p.read → PicksOne w t p.answer → is_honest b → PicksWrite w t p
 picks_write e w t at b sound a there x p entry rows read answer honest = record {
-  entry = λ table is. subst (λ (u : TableObject). PicksEntry w u p) (some_same x.table table (sym target.there ∙ is)) picked;
+  entry = λ table is. subst (λ (u : TableObject). PicksEntry w u p) (same_Some x.table table (sym target.there ∙ is)) picked;
   rows = λ unshared. record {
     same = to_swaps (back (subst (λ (rs : List TableRow). Shuffled (map held rs) (rows_held w t)) (sym rows) (held_same e w t at b a there x honest)));
     once = subst (λ (rs : List TableRow). IsDistinct nat_eq (map (λ (r : TableRow). r.id) rs)) (sym rows) ((sound.sound_boxes at.source b there).once honest at.number x.bound x.is);
@@ -191,7 +181,7 @@ done_clear e w t answer at count new sound target_at h a answered honest clear =
     p = record { entry = k.entry; answer = answer; rows = rows_in_box b at.number; read = read_for form (rows_in_box b at.number) read }
 
     one : k.bound ≡ x.bound
-    one = some_same k.bound x.bound (sym k.is ∙ x.is)
+    one = same_Some k.bound x.bound (sym k.is ∙ x.is)
 
     entry : Picks (b.content.holdings x.table.remote) k.entry
     entry = subst (λ (r : Name). Picks (b.content.holdings r) k.entry) (ap (λ (z : BoxTable). z.remote) one ∙ x.remote) k.picked
@@ -234,7 +224,7 @@ done_clear e w t answer at count new sound target_at h a answered honest clear =
         (subst (λ (m : Kind). Contains ((m.refuses r.table.columns r.table.settings).causes k.entry (rows_in_box b at.number) (changes_of (write_over w t) answer p.read)) c) kind_is r.stands))
       where
         table_is : r.table ≡ x.table
-        table_is = some_same r.table x.table (sym r.target.there ∙ target.there)
+        table_is = same_Some r.table x.table (sym r.target.there ∙ target.there)
 
         kind_is : r.kind ≡ b.nature.kind
         kind_is = one_kind w x.table.server r.kind b.nature.kind r.holdings b.content.holdings (subst (λ (u : TableObject). Serves w u.server r.kind r.holdings) table_is r.target.serves) target.serves
@@ -289,7 +279,7 @@ kind_told e w t answer at b c sound target_at there a k answered honest = record
     p = record { entry = k.entry; answer = answer; rows = rows_in_box b at.number; read = read_for form (rows_in_box b at.number) k.read }
 
     one : k.bound ≡ x.bound
-    one = some_same k.bound x.bound (sym k.is ∙ x.is)
+    one = same_Some k.bound x.bound (sym k.is ∙ x.is)
 
     entry : Picks (b.content.holdings x.table.remote) k.entry
     entry = subst (λ (r : Name). Picks (b.content.holdings r) k.entry) (ap (λ (z : BoxTable). z.remote) one ∙ x.remote) k.picked

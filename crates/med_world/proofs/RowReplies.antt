@@ -3,15 +3,12 @@ use Rattle.std.proofs.Common.{ℕ, true, false, List, Option, refl, sym, subst}
 use Rattle.std.proofs.lemmas.Bool.{false≢true}
 use Rattle.med_value.specs.declared.cause.Cause.{Cause}
 use Rattle.med_value.specs.declared.cause.Cause.TheVariants.{LimitExceeded, SourceFault, OutOfMemory}
-use Rattle.med_syntax.specs.Tree.{Name}
-use Rattle.med_syntax.specs.WriteTree.{WriteTree}
+use Rattle.med_syntax.specs.Prelude.{Name, WriteTree}
 use Rattle.bind_write.specs.Meaning.{target_of}
 use Rattle.med_parser.specs.CommandTree.{on_rows}
 use Rattle.fdw_api.specs.State.{BoxState}
 use Rattle.med_exec.specs.Running.{SlotShows, HasFailed, IsUsedUp}
-use Rattle.sql_meaning.specs.Requests.{sql}
-use Rattle.sql_meaning.specs.World.{World}
-use Rattle.sql_meaning.specs.Replies.{done, refused}
+use Rattle.sql_meaning.specs.Prelude.{sql, World, done, refused}
 use Rattle.sql_meaning.specs.Steps.{Step, is_refused, is_done, source_fails as source_fails_step, numbers_end as numbers_end_step, write_tag}
 use Rattle.med_world.specs.Engine.{Shown, leased, IsSound, Agrees, EachRises, Leads}
 use Rattle.med_world.specs.Writing.{WritesRows, WriteFails}

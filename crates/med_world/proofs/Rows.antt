@@ -6,7 +6,7 @@ use Rattle.med_value.specs.Datum.{Tuple, tuple}
 use Rattle.med_value.specs.declared.value.Row.{Row}
 use Rattle.fdw_api.specs.State.{BoxState}
 use Rattle.med_syntax.specs.CursorTree.{CountTree, some_rows, all_rows}
-use Rattle.med_exec.specs.Running.{GivesNext, EndsAt, Breaks, wants_memory, box_breaks}
+use Rattle.med_exec.specs.Prelude.{GivesNext, EndsAt, Breaks, wants_memory, box_breaks}
 use Rattle.med_exec.specs.Rests.{Rests}
 use Rattle.med_exec.specs.declared.running.Run.{Run}
 use Rattle.fdw_api.specs.declared.interface.Fault.{Fault}

@@ -4,15 +4,11 @@ use Rattle.std.specs.List.{IsDistinct}
 use Rattle.std.proofs.lemmas.Bool.{false≢true}
 use Rattle.std.proofs.lemmas.Bool.Decides.{eqb_tells}
 use Rattle.std.proofs.lemmas.List.Elements.{Contains-append_left, Contains-append_right, Contains-append_cases}
-use Rattle.std.proofs.lemmas.Option.{slice_get-get_or}
+use Rattle.std.proofs.lemmas.Option.{slice_get-get_or, same_Some}
 use Rattle.med_syntax.specs.Tree.{Name}
-use Rattle.fdw_api.specs.State.{BoxState, Scan, scan_of}
-use Rattle.fdw_api.specs.Calls.{NoScan}
-use Rattle.fdw_api.specs.Sound.{IsTableOf}
-use Rattle.med_exec.specs.Slots.{BoxAt}
-use Rattle.med_exec.specs.Running.{Held, ServesRun, AllServed, none_held}
+use Rattle.fdw_api.specs.Prelude.{BoxState, Scan, scan_of, NoScan, IsTableOf}
+use Rattle.med_exec.specs.Prelude.{BoxAt, Held, ServesRun, AllServed, none_held, AreApart, LeavesRun, GoesOn}
 use Rattle.med_exec.specs.Rests.{held, IsRunning}
-use Rattle.med_exec.specs.Leaving.{AreApart, LeavesRun, GoesOn}
 use Rattle.med_exec.proofs.Served.{box_inj, before_service}
 use Rattle.med_exec.proofs.Leaving.{in_or_not, served_leaves, served_had}
 use Rattle.med_exec.proofs.Left.{run_goes_on, run_is_held}
@@ -22,7 +18,7 @@ use Rattle.med_world.specs.Open.{Opened, Seated, AreNamedApart, leases_table, se
 use Rattle.med_world.specs.Seats.{AreSoundSeats, IsOpenAt}
 use Rattle.med_world.specs.Engine.{Shown, leased, EachBox, IsAtRest, LeasesNumber, IsOwned, AreHeldOnce, IsUnstaged, KeepsScans}
 use Rattle.med_world.specs.Laws.{with_boxes, with_seats}
-use Rattle.med_world.proofs.Lists.{some_same, bytes_other, each_at}
+use Rattle.med_world.proofs.Lists.{bytes_other, each_at}
 use Rattle.med_world.proofs.NamedTables.{place_of, at_place, map_place}
 use Rattle.med_world.proofs.Faring.{set_same, set_other}
 use Rattle.med_world.proofs.Seats.{RestsStay, on_stays, AllStay, IsIn, any_at, here_first, here_later}
@@ -100,7 +96,7 @@ unleased_scan e k t a s once keeps at_t at_a free there q scan live same =
     let o = keeps.owned a.source q s scan there live in
     let l = o.leased in
     let one : l.place ≡ k = once l.place k l.at a l.is_bound at_a l.source_is (l.number_is ∙ same) in
-    let is_t : l.table ≡ t = some_same l.table t (sym l.there ∙ ap (slice_get e.catalog.tables) one ∙ at_t) in
+    let is_t : l.table ≡ t = same_Some l.table t (sym l.there ∙ ap (slice_get e.catalog.tables) one ∙ at_t) in
     false≢true (sym free ∙ leased_by e.seats o.place o.cursor t.name o.is_open (ap (λ (x : TableObject). leases_table x.name o.cursor) (sym is_t) ∙ l.leases))
 
 -- ---- one session becomes another one
@@ -145,7 +141,7 @@ same_or_not {P} j k a b = split (eqb_tells j k)
 module _ (seats : List (Option Seated)) (place : ℕ) (seat : Option Seated) (within : place < length seats) where
   open_after : (j : ℕ) (c : Opened) → IsOpenAt (slice_set seats place seat) j c → (IsOpenAt seats j c × (j ≢ place)) ⊎ ((j ≡ place) × IsIn seat c)
   open_after j c h = same_or_not j place
-      (λ same. inr (same, (h.seat, some_same seat (Some h.seat) (sym (seat_set seats place seat within) ∙ ap (slice_get (slice_set seats place seat)) (sym same) ∙ h.there), h.has)))
+      (λ same. inr (same, (h.seat, same_Some seat (Some h.seat) (sym (seat_set seats place seat within) ∙ ap (slice_get (slice_set seats place seat)) (sym same) ∙ h.there), h.has)))
       (λ ne. inl (record { seat = h.seat; there = sym (set_other seats place j seat ne) ∙ h.there; has = h.has }, ne))
 
   open_now : (c : Opened) → IsIn seat c → IsOpenAt (slice_set seats place seat) place c
@@ -239,7 +235,7 @@ one_of (c ∷ cursors) slot number h = split (λ b. one_of cursors slot number b
 
 held_at : (cursors : List Opened) (k : ℕ) (c : Opened) (slot number : ℕ) → slice_get cursors k ≡ Some c → Contains (held c.run slot) number → Contains (held_by cursors slot) number
 held_at [] k c slot number at own = absurd cc
-held_at (d ∷ cursors) zero c slot number at own = Contains-append_left (held d.run slot) (held_by cursors slot) number (subst (λ (x : Opened). Contains (held x.run slot) number) (sym (some_same d c at)) own)
+held_at (d ∷ cursors) zero c slot number at own = Contains-append_left (held d.run slot) (held_by cursors slot) number (subst (λ (x : Opened). Contains (held x.run slot) number) (sym (same_Some d c at)) own)
 held_at (d ∷ cursors) (suc k) c slot number at own = Contains-append_right (held d.run slot) (held_by cursors slot) number (held_at cursors k c slot number at own)
 
 pub among : (cursors : List Opened) (c : Opened) → Contains cursors c → AllIn c (held_by cursors)
@@ -296,7 +292,7 @@ open_among (x ∷ seats) c h = split (λ b. open_among seats c b) x (Contains-ap
 
 pub is_among : (seats : List (Option Seated)) (place : ℕ) (c : Opened) → IsOpenAt seats place c → Contains (all_cursors seats) c
 is_among [] place c h = absurd (let at = h.there in cc)
-is_among (x ∷ seats) zero c h = Contains-append_left (seat_cursors x) (all_cursors seats) c (subst (λ (y : Option Seated). Contains (seat_cursors y) c) (sym (some_same x (Some h.seat) h.there)) h.has)
+is_among (x ∷ seats) zero c h = Contains-append_left (seat_cursors x) (all_cursors seats) c (subst (λ (y : Option Seated). Contains (seat_cursors y) c) (sym (same_Some x (Some h.seat) h.there)) h.has)
 is_among (x ∷ seats) (suc place) c h = Contains-append_right (seat_cursors x) (all_cursors seats) c (is_among seats place c (record { seat = h.seat; there = h.there; has = h.has }))
 
 zero≢suc : (n : ℕ) → zero ≡ suc n → ⊥

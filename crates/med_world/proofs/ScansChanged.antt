@@ -3,15 +3,12 @@ use Rattle.std.proofs.Common.{◌≡◌, ◌≢◌, ℕ, zero, suc, ◌⊎◌, i
 use Rattle.std.specs.FinMap as finmap
 use Rattle.std.specs.Ordering.{nat_cmp}
 use Rattle.std.proofs.lemmas.Bool.{false≢true}
+use Rattle.std.proofs.lemmas.Option.{same_Some}
 use Rattle.med_syntax.specs.Tree.{Name}
-use Rattle.fdw_api.specs.State.{BoxState, Scan, IsIdle, table_of, scan_of}
-use Rattle.fdw_api.specs.Calls.{NoScan, Refuses}
-use Rattle.fdw_api.specs.Sound.{IsSoundBox}
+use Rattle.fdw_api.specs.Prelude.{BoxState, Scan, IsIdle, table_of, scan_of, NoScan, Refuses, IsSoundBox}
 use Rattle.fdw_api.specs.declared.interface.Fault.{Fault}
-use Rattle.med_exec.specs.Slots.{BoxAt, ChangesAt}
-use Rattle.med_exec.specs.Leaving.{KeepsScan}
-use Rattle.med_catalog.specs.Objects.{TableObject}
-use Rattle.med_catalog.specs.Changes.{ObjectChange, new_table, no_table, no_server, changed, without}
+use Rattle.med_exec.specs.Prelude.{BoxAt, ChangesAt, KeepsScan}
+use Rattle.med_catalog.specs.Prelude.{TableObject, ObjectChange, new_table, no_table, no_server, changed, without}
 use Rattle.med_binder.specs.Places.{Attached}
 use Rattle.med_world.specs.Open.{Opened}
 use Rattle.sql_meaning.specs.World.{beside_without}
@@ -19,7 +16,7 @@ use Rattle.med_world.specs.Seats.{IsOpenAt}
 use Rattle.med_world.specs.Engine.{Shown, leased, EachBox, LeasesNumber, IsUnstaged, KeepsScans, IsSound, IsFirst, with_change, BindsTable, UnbindsTable}
 use Rattle.med_world.specs.Altering.{BindsInVain}
 use Rattle.med_world.specs.Laws.{with_boxes}
-use Rattle.med_world.proofs.Lists.{some_same, none_some, bytes_same, push_before, push_cases}
+use Rattle.med_world.proofs.Lists.{none_some, bytes_same, push_before, push_cases}
 use Rattle.med_world.proofs.Indexes.{was_index, was_some, left_at, tables_left}
 use Rattle.med_world.proofs.Faring.{Spares, that_is, same_box, changes_by, was_there, set_other, left_box, binds_spares, unbinds_spares, refuses_spares, vain_spares}
 use Rattle.med_world.proofs.Scans.{HadScans, AllLeft, KeepsLeases, leases_itself, scans_kept, leased_by, same_or_not}
@@ -126,7 +123,7 @@ module _ (e n : Shown) (t : TableObject) (sound : IsSound e) (h : BindsTable e t
 -- the first table of a name has it
 pub first_named : (name : Name) (tables : List TableObject) (place : ℕ) (t : TableObject) → IsFirst name tables place → slice_get tables place ≡ Some t → t.name ≡ name
 first_named name [] place t first at = absurd first
-first_named name (x ∷ xs) zero t first at = sym (bytes_same name t.name (ap (λ (y : TableObject). bytes_eq name y.name) (sym (some_same x t at)) ∙ first))
+first_named name (x ∷ xs) zero t first at = sym (bytes_same name t.name (ap (λ (y : TableObject). bytes_eq name y.name) (sym (same_Some x t at)) ∙ first))
 first_named name (x ∷ xs) (suc k) t first at = first_named name xs k t first.1 at
 
 module _ (e n : Shown) (name : Name) (sound : IsSound e) (free : leased e name ≡ false) (h : UnbindsTable e name n) (none : (s : BoxState) → slice_get e.boxes h.at.source ≡ Some (Some s) → NoScan s h.at.number) where
@@ -220,11 +217,11 @@ module _ (e n : Shown) (box : BoxState) (boxes : n.boxes ≡ e.boxes ++ Some box
         where
           split : (slice_get e.boxes slot ≡ Some (Some t)) ⊎ ((slot ≡ length e.boxes) × (Some box ≡ Some t)) → IsUnstaged t
           split (inl old) = k.unstaged slot t old
-          split (inr new) = subst IsUnstaged (some_same box t new.1) idle.no_staging
+          split (inr new) = subst IsUnstaged (same_Some box t new.1) idle.no_staging
 
       had : HadScans e.boxes n.boxes
       had slot number t scan at live = split (either slot t at)
         where
           split : (slice_get e.boxes slot ≡ Some (Some t)) ⊎ ((slot ≡ length e.boxes) × (Some box ≡ Some t)) → BoxAt e.boxes slot (λ s. scan_of s number ≡ Some scan)
           split (inl old) = record { box = t; there = old; holds = live }
-          split (inr new) = absurd (none_some scan (scan_of box number) (idle.no_scan number) (ap (λ (b : BoxState). scan_of b number) (some_same box t new.1) ∙ live))
+          split (inr new) = absurd (none_some scan (scan_of box number) (idle.no_scan number) (ap (λ (b : BoxState). scan_of b number) (same_Some box t new.1) ∙ live))

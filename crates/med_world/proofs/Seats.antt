@@ -3,25 +3,20 @@ use Rattle.std.proofs.Common.{◌≡◌, ◌↔◌, ℕ, ◌-◌, ◌<◌, ◌�
 use Rattle.std.specs.List.{list_any}
 use Rattle.std.proofs.lemmas.Bool.{false≢true}
 use Rattle.std.proofs.lemmas.Bool.Decides.{eqb_tells}
-use Rattle.med_value.specs.Datum.{Tuple}
+use Rattle.std.proofs.lemmas.Option.{same_Some}
+use Rattle.med_value.specs.Prelude.{Tuple, session_count}
 use Rattle.med_syntax.specs.Tree.{Name}
-use Rattle.fdw_api.specs.Kinds.{Held}
-use Rattle.fdw_api.specs.State.{BoxState}
+use Rattle.fdw_api.specs.Prelude.{Held, BoxState}
 use Rattle.scan_loops.specs.Running.{HonestFor}
+use Rattle.med_exec.specs.Prelude.{levels_in, GoesOn}
 use Rattle.med_exec.specs.Rests.{Rests}
-use Rattle.med_exec.specs.Pulling.{levels_in}
-use Rattle.med_exec.specs.Leaving.{GoesOn}
 use Rattle.med_binder.specs.Places.{Attached}
-use Rattle.med_catalog.specs.Objects.{TableObject, Objects, table_named}
-use Rattle.med_catalog.specs.Changes.{new_table, no_table, without}
+use Rattle.med_catalog.specs.Prelude.{TableObject, Objects, table_named, new_table, no_table, without}
 use Rattle.med_world.specs.Open.{Opened, Seated, leases_table, seat_leases, any_leases}
-use Rattle.med_value.specs.Limits.{session_count}
-use Rattle.sql_meaning.specs.Requests.{IsSid}
-use Rattle.sql_meaning.specs.World.{World, Leased, Cursor, Session, cells_of, rows_named, rows_with, beside_without, reads_table, leases, any_session, is_leased}
-use Rattle.sql_meaning.specs.Steps.{with_catalog}
+use Rattle.sql_meaning.specs.Prelude.{IsSid, World, Leased, Cursor, Session, cells_of, rows_named, rows_with, beside_without, reads_table, leases, any_session, is_leased, with_catalog}
 use Rattle.med_world.specs.Seats.{seat_in, seat_of, IsOpenAt, StillStands, CursorAgrees, CursorsAgree, SeatAgrees}
 use Rattle.med_world.specs.Engine.{Shown, leased, IsSound, RowsAgree, Agrees}
-use Rattle.med_world.proofs.Lists.{some_same, same_bytes, bytes_same, other_bytes}
+use Rattle.med_world.proofs.Lists.{same_bytes, bytes_same, other_bytes}
 use Rattle.med_world.proofs.NamedTables.{place_of, at_place, find_fewer, still_found, some_of}
 
 -- ---- runs over other boxes
@@ -59,7 +54,7 @@ or_true false b e = e
 
 pub any_at : {X : Type 0} (p : X → Bool) (xs : List X) (k : ℕ) (x : X) → slice_get xs k ≡ Some x → p x ≡ true → list_any p xs ≡ true
 any_at p [] k x at e = absurd cc
-any_at p (y ∷ ys) zero x at e = ap (λ b. b || list_any p ys) (ap p (some_same y x at) ∙ e)
+any_at p (y ∷ ys) zero x at e = ap (λ b. b || list_any p ys) (ap p (same_Some y x at) ∙ e)
 any_at p (y ∷ ys) (suc k) x at e = or_true (p y) (list_any p ys) (any_at p ys k x at e)
 
 -- a cursor reads the tables that it leases

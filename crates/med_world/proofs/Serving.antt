@@ -2,10 +2,7 @@
 use Rattle.std.proofs.Common.{◌≡◌, ℕ, true, List, [], ◌∷◌, ◌++◌, Option, Some, None, slice_get, length, map, refl, ap, sym, ◌∙◌, subst, zero, suc, nat_eq, IsPermutation, Contains, ◌⊎◌, inl, inr, arith}
 use Rattle.std.specs.List.{list_all, IsDistinct}
 use Rattle.med_value.specs.declared.value.ColType.{ColType}
-use Rattle.fdw_api.specs.Kinds.{Held, held}
-use Rattle.fdw_api.specs.Scan.{TableRow, row_fits}
-use Rattle.fdw_api.specs.State.{BoxState, BoxTable, Scan, is_honest, table_of, scan_of}
-use Rattle.fdw_api.specs.Sound.{IsTableOf, IsSoundBox}
+use Rattle.fdw_api.specs.Prelude.{Held, held, TableRow, row_fits, BoxState, BoxTable, Scan, is_honest, table_of, scan_of, IsTableOf, IsSoundBox}
 use Rattle.med_exec.specs.Running.{Served, Held as Scans, none_held, further, ServesRun, AllServed}
 use Rattle.med_exec.proofs.Served.{box_inj, after_service, before_service}
 use Rattle.med_exec.proofs.Leaving.{in_or_not, served_had}

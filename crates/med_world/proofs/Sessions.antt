@@ -3,28 +3,22 @@ use Rattle.std.proofs.Common.{◌≡◌, ◌≢◌, ℕ, ◌-◌, ◌<◌, ◌�
 use Rattle.std.proofs.lemmas.Bool.{false≢true}
 use Rattle.std.proofs.lemmas.Bool.Decides.{eqb_tells}
 use Rattle.std.proofs.lemmas.List.{length-set, length-replicate}
-use Rattle.std.proofs.lemmas.Option.{slice_get-get_or}
+use Rattle.std.proofs.lemmas.Option.{slice_get-get_or, same_Some}
 use Rattle.std.specs.List.{IsDistinct}
 use Rattle.med_value.specs.declared.cause.Cause.TheVariants.{Protocol, NoConnection}
 use Rattle.med_syntax.specs.Tree.{Name}
 use Rattle.fdw_api.specs.State.{BoxState}
-use Rattle.med_exec.specs.Running.{ServesRun, none_held}
+use Rattle.med_exec.specs.Prelude.{ServesRun, none_held}
 use Rattle.med_exec.specs.Rests.{held}
 use Rattle.med_exec.proofs.Served.{all_served}
 use Rattle.med_world.specs.Open.{Opened, Seated, held_by, AreHeld, AreOwn, all_cursors}
 use Rattle.med_value.specs.Limits.{session_count}
-use Rattle.sql_meaning.specs.Requests.{opening, bye, IsSid, IsUser}
-use Rattle.sql_meaning.specs.Picks.{no_pick}
-use Rattle.sql_meaning.specs.World.{World, Session, new_session, IsOpen, with_session, without_sessions}
-use Rattle.sql_meaning.specs.Causes.{NoneStands}
-use Rattle.sql_meaning.specs.Replies.{done, refused}
-use Rattle.sql_meaning.specs.Steps.{is_done}
+use Rattle.sql_meaning.specs.Prelude.{opening, bye, IsSid, IsUser, no_pick, World, Session, new_session, IsOpen, with_session, without_sessions, NoneStands, done, refused, is_done}
 use Rattle.med_world.specs.Seats.{seat_in, seat_of, user_of, new_seat, IsSoundSeat, AreSoundSeats, IsOpenAt, SeatAgrees}
 use Rattle.med_world.specs.Engine.{Shown, EachBox, IsAtRest, AreHeldOnce, IsSound, Agrees, Leads, Closes, ClosesAll}
 use Rattle.med_world.specs.Laws.{with_seats, with_boxes}
 use Rattle.med_world.proofs.Seats.{IsIn, place_there, open_in, seat_stays, stands_still}
 use Rattle.med_world.proofs.Scans.{apart_none, Turned, turned_scans, others_stay, quiet_turn, one_of, among, seat_own, all_own, seat_held, all_held, closed_rest, all_closed_scans}
-use Rattle.med_world.proofs.Lists.{some_same}
 use Rattle.med_world.proofs.Faring.{set_same, set_other, none_rises}
 use Rattle.med_world.proofs.Serving.{run_rises, sources_served, rows_served, none_typed, run_sound}
 use Rattle.med_world.proofs.Asks.{asks_refused, asks_unread}
@@ -101,7 +95,7 @@ seat_turned seats place seat within h here k s at = split (eqb_tells k place)
     split : ((eqb k place ≡ true) × (k ≡ place)) ⊎ ((eqb k place ≡ false) × (k ≢ place)) → IsSoundSeat s
     split (inl same) =
         let now : slice_get (slice_set seats place seat) place ≡ Some seat = set_same seats place (slice_index_or seats place None) seat (slice_get-get_or seats place None within) in
-        here s (some_same seat (Some s) (sym now ∙ ap (slice_get (slice_set seats place seat)) (sym same.1) ∙ at))
+        here s (same_Some seat (Some s) (sym now ∙ ap (slice_get (slice_set seats place seat)) (sym same.1) ∙ at))
     split (inr other) = h k s (sym (set_other seats place k seat other.1) ∙ at)
 
 pub turned_sound : (e : Shown) (new : List (Option BoxState)) (sid : ℕ) (seat : Option Seated) → IsSid sid → Turned e (sid - 1) seat new → IsSound e → ((s : Seated) → seat ≡ Some s → IsSoundSeat s)
@@ -127,7 +121,7 @@ closed_none : (seats : List (Option Seated)) (sid : ℕ) (c : Opened) → seat_o
 closed_none seats sid c closed h = none_some_seat h.seat (sym closed ∙ ap seat_in h.there)
 
 new_none : (user : Name) (c : Opened) → IsIn (Some (new_seat user)) c → ⊥
-new_none user c h = none_there c (subst (λ (s : Seated). Contains s.cursors c) (sym (some_same (new_seat user) h.0 h.1)) h.2)
+new_none user c h = none_there c (subst (λ (s : Seated). Contains s.cursors c) (sym (same_Some (new_seat user) h.0 h.1)) h.2)
   where
     none_there : (c : Opened) → Contains [] c → ⊥
     none_there c has = let within = has.1 in omega arith
@@ -165,7 +159,7 @@ opened_twice e sid user is h = leads_refused e e sid (opening user) Protocol (as
 pub opened_sound : (e : Shown) (sid : ℕ) (user : Name) → IsSid sid → IsSound e → is_some (user_of e.seats sid) ≡ false → IsSound (with_seats e (slice_set e.seats (sid - 1) (Some (new_seat user))))
 opened_sound e sid user is sound closed =
     turned_sound e e.boxes sid (Some (new_seat user)) is (opened_turn e sid user closed) sound
-    (λ s same. subst IsSoundSeat (some_same (new_seat user) s same) (new_seat_sound user))
+    (λ s same. subst IsSoundSeat (same_Some (new_seat user) s same) (new_seat_sound user))
 
 -- ---- BYE, and the end of a session
 
@@ -181,7 +175,7 @@ shut_turn e new sid seat there once ends = record {
     apart_none (held c.run),
   );
   stay = λ c is_in. absurd (none_some_seat is_in.0 is_in.1);
-  ends = λ c is_open. inr (among seat.cursors c (subst (λ (s : Seated). Contains s.cursors c) (some_same is_open.seat seat (some_same (Some is_open.seat) (Some seat) (sym is_open.there ∙ here))) is_open.has));
+  ends = λ c is_open. inr (among seat.cursors c (subst (λ (s : Seated). Contains s.cursors c) (same_Some is_open.seat seat (same_Some (Some is_open.seat) (Some seat) (sym is_open.there ∙ here))) is_open.has));
   owns = λ slot number t scan has at live. absurd (let n = has.1 in omega arith);
 }
   where

@@ -2,13 +2,10 @@
 use Rattle.std.proofs.Common.{◌≡◌, ℕ, zero, suc, false, List, [], ◌∷◌, Some, slice_get, Contains, ap, sym, ◌∙◌, arith}
 use Rattle.std.specs.List.{list_any}
 use Rattle.med_syntax.specs.QueryTree.{SelectTree}
-use Rattle.med_binder.specs.Place.{Place}
+use Rattle.med_binder.specs.Prelude.{Place, Attached, ArePlaces, meant_by}
 use Rattle.med_exec.specs.Running.{HonestAt, HonestOver}
 use Rattle.med_catalog.specs.Objects.{Objects}
-use Rattle.med_binder.specs.Places.{Attached, ArePlaces}
-use Rattle.med_binder.specs.Queries.{meant_by}
-use Rattle.sql_meaning.specs.World.{World, is_shared}
-use Rattle.sql_meaning.specs.Causes.{reads_shared}
+use Rattle.sql_meaning.specs.Prelude.{World, is_shared, reads_shared}
 use Rattle.med_world.specs.Engine.{Shown, IsSound, IsBoundAs, Agrees}
 use Rattle.med_world.proofs.Altered.{has_table, honest_at}
 use Rattle.med_world.proofs.Seats.{left_false, right_false}

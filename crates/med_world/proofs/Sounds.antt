@@ -2,21 +2,17 @@
 use Rattle.std.proofs.Common.{◌≡◌, ◌≢◌, ℕ, ◌+◌, ◌⊎◌, true, false, List, [], ◌∷◌, ◌++◌, Option, Some, None, Contains, slice_get, slice_set, length, find, is_some, refl, ap, sym, ◌∙◌, subst, inl, inr, eqb, bytes_eq}
 use Rattle.std.proofs.lemmas.Bool.Decides.{eqb_tells}
 use Rattle.std.proofs.lemmas.List.{length-set, length_push}
+use Rattle.std.proofs.lemmas.Option.{same_Some}
 use Rattle.med_syntax.specs.Tree.{Name}
-use Rattle.fdw_api.specs.Kinds.{Column, OptionForm}
-use Rattle.fdw_api.specs.State.{Nature, BoxState, BoxTable, Scan, IsIdle, table_of, scan_of, set_at}
-use Rattle.fdw_api.specs.Calls.{NoScan, Binds, CanUnbind, Unbinds, Refuses}
+use Rattle.fdw_api.specs.Prelude.{Column, OptionForm, Nature, BoxState, BoxTable, Scan, IsIdle, table_of, scan_of, set_at, NoScan, Binds, CanUnbind, Unbinds, Refuses, IsSoundBox}
 use Rattle.fdw_api.specs.declared.interface.Fault.{Fault}
-use Rattle.fdw_api.specs.Sound.{IsSoundBox}
 use Rattle.med_exec.specs.Slots.{ChangesAt}
-use Rattle.med_catalog.specs.Objects.{ServerObject, TableObject, Objects, server_named}
-use Rattle.med_catalog.specs.Changes.{ObjectChange, new_table, no_table, no_server, changed}
-use Rattle.med_catalog.specs.Options.{table_settings, column_settings}
+use Rattle.med_catalog.specs.Prelude.{ServerObject, TableObject, Objects, server_named, ObjectChange, new_table, no_table, no_server, changed, table_settings, column_settings}
 use Rattle.med_binder.specs.Places.{Attached}
 use Rattle.sql_meaning.specs.World.{beside_without}
 use Rattle.med_world.specs.Engine.{Label, Shown, leased, EachTakes, EachBox, IsUnstaged, AreSound, IsServerAt, IsStandingAt, IsWrittenAs, IsBoundAs, IsAmong, IsSound, with_change, BindsTable, UnbindsTable, DropsBox}
 use Rattle.med_world.specs.Altering.{BindsInVain}
-use Rattle.med_world.proofs.Lists.{some_same, none_some, push_before, push_last, push_cases, past}
+use Rattle.med_world.proofs.Lists.{none_some, push_before, push_last, push_cases, past}
 use Rattle.med_world.proofs.Indexes.{was_index, was_once, was_other, was_some, left_at, tables_left, as_many_left}
 use Rattle.med_world.proofs.Faring.{Spares, that_is, vain_spares, spares_itself, changes_by, binds_spares, unbinds_spares, refuses_spares, was_there, is_there, set_other, set_this, set_that, same_box, left_box}
 use Rattle.med_world.proofs.Altered.{has_table, fresh_other}
@@ -193,7 +189,7 @@ unbound_sound e n name law sound free objects h = subst IsSound (sym h.is) (reco
         left : (q : BoxState) → slice_get e.boxes slot ≡ Some (Some q) → table_of q number ≡ Some b → (slot ≡ h.at.source → number ≢ h.at.number) → IsAmong shrunk.bound slot number
         left q there was other =
             let among = sound.bound_attached slot number q b there was in
-            let ne : among.place ≢ h.place = λ same. (let one : among.at ≡ h.at = some_same among.at h.at (sym among.there ∙ ap (slice_get e.bound) same ∙ h.bound) in
+            let ne : among.place ≢ h.place = λ same. (let one : among.at ≡ h.at = same_Some among.at h.at (sym among.there ∙ ap (slice_get e.bound) same ∙ h.bound) in
             other (sym among.source_is ∙ ap (λ (a : Attached). a.source) one) (sym among.number_is ∙ ap (λ (a : Attached). a.number) one)) in
             let j = was_some h.place among.place ne in
             record { place = j.0; at = among.at; there = left_at name e.catalog.tables e.bound h.place h.first j.0 ∙ ap (slice_get e.bound) j.1 ∙ among.there; source_is = among.source_is; number_is = among.number_is }
@@ -364,7 +360,7 @@ dropped_sound e n name sound objects stay h alone unused = subst IsSound (sym h.
 
         elsewhere : p.0 ≢ h.place
         elsewhere same =
-            let one : p.1.label ≡ h.server.source.0 = some_same p.1.label h.server.source.0 (sym p.1.there ∙ ap (slice_get e.labels) same ∙ h.server.source.1) in
+            let one : p.1.label ≡ h.server.source.0 = same_Some p.1.label h.server.source.0 (sym p.1.there ∙ ap (slice_get e.labels) same ∙ h.server.source.1) in
             alone s in_p (sym was.2 ∙ sym p.1.named ∙ ap (λ (l : Label). l.name) one ∙ h.server.source.2)
 
     bound : (k : ℕ) (t : TableObject) (a : Attached) → slice_get e.catalog.tables k ≡ Some t → slice_get e.bound k ≡ Some a → IsBoundAs shrunk t a
@@ -411,7 +407,7 @@ idle_at e name place box sound server there unused once = record {
 
         of_server : IsBoundAs e u.0 among.at → ⊥
         of_server x =
-            let one : x.server.source.0 ≡ server.source.0 = some_same x.server.source.0 server.source.0 (sym x.server.source.1 ∙ ap (slice_get e.labels) among.source_is ∙ server.source.1) in
+            let one : x.server.source.0 ≡ server.source.0 = same_Some x.server.source.0 server.source.0 (sym x.server.source.1 ∙ ap (slice_get e.labels) among.source_is ∙ server.source.1) in
             let sources : x.server.at.source ≡ server.at.source = sym x.server.source.2 ∙ ap (λ (l : Label). l.name) one ∙ server.source.2 in
             unused u.0 among.place u.1 (once x.server.at server.at u.0.server name x.server.is server.is sources)
 

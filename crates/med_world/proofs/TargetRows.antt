@@ -2,16 +2,15 @@
 use Rattle.std.proofs.Common.{◌≡◌, ◌≢◌, ℕ, ◌+◌, Bool, true, false, cond, List, [], ◌∷◌, Option, Some, find, map, slice_get, slice_set, refl, ap, sym, ◌∙◌, subst, zero, suc, arith, bytes_eq, if◌then◌else◌}
 use Rattle.std.specs.List.{IsDistinct}
 use Rattle.std.proofs.lemmas.Map.Keys.{IsDistinct-tail}
+use Rattle.std.proofs.lemmas.Option.{same_Some}
 use Rattle.med_syntax.specs.Tree.{Name}
-use Rattle.fdw_api.specs.Kinds.{Held}
-use Rattle.fdw_api.specs.State.{BoxState}
+use Rattle.fdw_api.specs.Prelude.{Held, BoxState}
 use Rattle.bind_names.specs.Scope.{place_from}
-use Rattle.med_binder.specs.Tables.{shape_of}
-use Rattle.med_binder.specs.Places.{Attached}
+use Rattle.med_binder.specs.Prelude.{shape_of, Attached}
 use Rattle.med_catalog.specs.Objects.{TableObject}
 use Rattle.sql_meaning.specs.World.{Source, SourceState, rows_named, rows_with, with_state}
 use Rattle.med_world.specs.Engine.{Label, IsNamedAt, IsFirst, state_of, sources_of, AreRowsOf, RowsAgree}
-use Rattle.med_world.proofs.Lists.{some_same, same_bytes, bytes_same, other_bytes, bytes_other, one_place, zero≢suc}
+use Rattle.med_world.proofs.Lists.{same_bytes, bytes_same, other_bytes, bytes_other, one_place, zero≢suc}
 use Rattle.med_world.proofs.Altered.{named_in}
 
 -- ---- its place
@@ -27,7 +26,7 @@ first_from (t ∷ ts) name at place e = split (bytes_eq t.name name) refl (λ h.
   where
     split : (b : Bool) → bytes_eq t.name name ≡ b → (place_from (suc at) (map shape_of ts) name ≡ Some place → (k : ℕ) × (place ≡ suc at + k) × IsFirst name ts k)
         → (if b then Some at else place_from (suc at) (map shape_of ts) name) ≡ Some place → (k : ℕ) × (place ≡ at + k) × IsFirst name (t ∷ ts) k
-    split true is rest h = (zero, (let same : at ≡ place = some_same at place h in omega (arith, same)), turned t.name name true is)
+    split true is rest h = (zero, (let same : at ≡ place = same_Some at place h in omega (arith, same)), turned t.name name true is)
     split false is rest h = let r = rest h in (suc r.0, (let same : place ≡ suc at + r.0 = r.1 in omega (arith, same)), (turned t.name name false is, r.2))
 
 pub first_table : (tables : List TableObject) (name : Name) (k : ℕ) → IsFirst name tables k → (t : TableObject) × (slice_get tables k ≡ Some t) × (find (λ (x : TableObject). bytes_eq name x.name) tables ≡ Some t)
@@ -44,7 +43,7 @@ rows_found boxes name [] bound rows k a first h at = absurd first
 rows_found boxes name (t ∷ ts) [] rows k a first h at = absurd cc
 rows_found boxes name (t ∷ ts) (b ∷ bs) [] k a first h at = absurd h
 rows_found boxes name (t ∷ ts) (b ∷ bs) (r ∷ rs) zero a first h at =
-    subst (λ (l : List Held). AreRowsOf boxes a l) (sym (ap (λ c. cond c r (rows_named name ts rs)) first)) (subst (λ (x : Attached). AreRowsOf boxes x r) (some_same b a at) h.0)
+    subst (λ (l : List Held). AreRowsOf boxes a l) (sym (ap (λ c. cond c r (rows_named name ts rs)) first)) (subst (λ (x : Attached). AreRowsOf boxes x r) (same_Some b a at) h.0)
 rows_found boxes name (t ∷ ts) (b ∷ bs) (r ∷ rs) (suc k) a first h at =
     subst (λ (l : List Held). AreRowsOf boxes a l) (sym (ap (λ c. cond c r (rows_named name ts rs)) first.0)) (rows_found boxes name ts bs rs k a first.1 h.1 at)
 
@@ -72,7 +71,7 @@ rows_changed old new name now (t ∷ ts) [] rows k a first at is others h = absu
 rows_changed old new name now (t ∷ ts) (b ∷ bs) [] k a first at is others h = absurd h
 rows_changed old new name now (t ∷ ts) (b ∷ bs) (r ∷ rs) zero a first at is others h =
     subst (λ (l : List (List Held)). RowsAgree new (b ∷ bs) l) (sym (ap (λ c. cond c (now ∷ rs) (r ∷ rows_with name now ts rs)) first))
-    (subst (λ (x : Attached). AreRowsOf new x now) (sym (some_same b a at)) is, rows_stay old new bs rs (λ j c at_c. others (suc j) c at_c (no_suc j)) h.1)
+    (subst (λ (x : Attached). AreRowsOf new x now) (sym (same_Some b a at)) is, rows_stay old new bs rs (λ j c at_c. others (suc j) c at_c (no_suc j)) h.1)
 rows_changed old new name now (t ∷ ts) (b ∷ bs) (r ∷ rs) (suc k) a first at is others h =
     subst (λ (l : List (List Held)). RowsAgree new (b ∷ bs) l) (sym (ap (λ c. cond c (now ∷ rs) (r ∷ rows_with name now ts rs)) first.0))
     (others zero b refl (zero≢suc k) r h.0, rows_changed old new name now ts bs rs k a first.1 at is (λ j c at_c ne. others (suc j) c at_c (suc_other j k ne)) h.1)

@@ -1,15 +1,12 @@
 -- Which cause of a statement is told: what every statement shares. Each kind of statement then speaks of its own causes alone.
 use Rattle.std.proofs.Common.{◌≡◌, ℕ, ◌<◌, ◌≤◌, ◌⊎◌, List, Some, is_some, refl, ap, sym, ◌∙◌, subst, arith, inl, inr, lit≤}
+use Rattle.std.proofs.lemmas.Option.{same_Some}
 use Rattle.med_value.specs.declared.cause.Cause.{Cause}
 use Rattle.med_value.specs.declared.cause.Cause.TheVariants.{Protocol, NoConnection, Syntax, LiteralOutOfRange, NameTooLong, TooDeep, FetchZero}
 use Rattle.med_parser.specs.CommandCauses.{SyntaxCauses}
-use Rattle.sql_meaning.specs.Requests.{opening, sql, bye, IsUser}
+use Rattle.sql_meaning.specs.Prelude.{opening, sql, bye, IsUser, Pick, World, Session, IsOpen, TreeCauses, IsStatementOf, Stands, IsPick, IsPickOf, IsTold, NoneStands, NoneBeforeState, NoneBeforeRun}
 use Rattle.med_parser.specs.CommandTree.{CommandTree}
 use Rattle.med_parser.specs.CommandGrammar.{HasCommand}
-use Rattle.sql_meaning.specs.Picks.{Pick}
-use Rattle.sql_meaning.specs.World.{World, Session, IsOpen}
-use Rattle.sql_meaning.specs.Causes.{TreeCauses, IsStatementOf, Stands, IsPick, IsPickOf, IsTold, NoneStands, NoneBeforeState, NoneBeforeRun}
-use Rattle.med_world.proofs.Lists.{some_same}
 use Rattle.med_catalog.specs.DdlCauses.{phase}
 
 -- a cause of the phase of syntax is of phase 2
@@ -63,7 +60,7 @@ pub shown_by : (w : World) (sid : ℕ) (p : Pick) (text : List ℕ) (s : Session
 shown_by w sid p text s tree k d (inl f) = absurd (f.1 (open_by w sid s k.is.0))
 shown_by w sid p text s tree k d (inr (inl f)) = absurd (k.clear d f)
 shown_by w sid p text s tree k d (inr (inr (s2, t2, is, h))) =
-    let es : s2 ≡ s = some_same s2 s (sym is.0 ∙ k.is.0) in
+    let es : s2 ≡ s = same_Some s2 s (sym is.0 ∙ k.is.0) in
     let et : t2 ≡ tree = k.one t2 tree is.1 k.is.1 in
     subst (λ (x : Session). TreeCauses w x p tree d) es (subst (λ (t : CommandTree). TreeCauses w s2 p t d) et h)
 
@@ -82,7 +79,7 @@ run_before w sid text s tree k late p d x = late p d (shown_by w sid p text s tr
 
 pub pick_tree : (w : World) (sid : ℕ) (p : Pick) (text : List ℕ) (s : Session) (tree : CommandTree) → IsKnownAs w sid text s tree → IsPick w s tree p → IsPickOf w sid (sql text) p
 pick_tree w sid p text s tree k h s2 t2 is formed =
-    let es : s ≡ s2 = some_same s s2 (sym k.is.0 ∙ is.0) in
+    let es : s ≡ s2 = same_Some s s2 (sym k.is.0 ∙ is.0) in
     let et : tree ≡ t2 = k.one tree t2 k.is.1 is.1 in
     subst (λ (x : Session). IsPick w x t2 p) es (subst (λ (t : CommandTree). IsPick w s t p) et h)
 

@@ -2,35 +2,28 @@
 use Rattle.std.proofs.Common.{◌≡◌, ℕ, ◌-◌, slice_set, ◌<◌, ◌≤◌, ◌⊎◌, true, false, List, [], ◌++◌, Option, Some, None, not, filter, find, length, map, codes, refl, ap, sym, ◌∙◌, subst, arith, inl, inr}
 use Rattle.std.proofs.lemmas.Bool.{false≢true}
 use Rattle.std.proofs.lemmas.List.{append_assoc, append-nil}
+use Rattle.std.proofs.lemmas.Option.{same_Some}
 use Rattle.med_value.specs.Datum.{Tuple}
 use Rattle.med_value.specs.declared.cause.Cause.{Cause}
 use Rattle.med_value.specs.declared.cause.Cause.TheVariants.{InvalidCursorName, OutOfMemory, SourceFault}
-use Rattle.med_syntax.specs.Tree.{Name}
+use Rattle.med_syntax.specs.Prelude.{Name, CountTree, some_rows, all_rows, CursorTree, declare, fetch, close}
 use Rattle.med_query.specs.Query.{IsAnswer}
 use Rattle.fdw_api.specs.State.{BoxState}
 use Rattle.med_exec.specs.declared.running.Run.{Run}
-use Rattle.med_exec.specs.Running.{none_held}
+use Rattle.med_exec.specs.Prelude.{none_held, levels_in, GivesAsTheyCome}
+use Rattle.med_exec.specs.Rests.{Rests, held}
 use Rattle.med_exec.proofs.Served.{honest_in_still}
 use Rattle.scan_loops.specs.Running.{slots_of, HonestFor}
 use Rattle.scan_loops.specs.declared.levels.LoopLevel.{LoopLevel}
-use Rattle.med_exec.specs.Pulling.{levels_in, GivesAsTheyCome}
-use Rattle.med_exec.specs.Rests.{Rests, held}
 use Rattle.med_parser.specs.CommandTree.{on_cursors}
-use Rattle.med_syntax.specs.CursorTree.{CountTree, some_rows, all_rows, CursorTree, declare, fetch, close}
 use Rattle.med_world.specs.Open.{Opened, Seated, opened_named, without_named, with_run}
 use Rattle.med_world.specs.Fetching.{GivesRows, GivesNone, no_memory, box_fails, HasRisen, PullsFetched, PullsEnded}
-use Rattle.sql_meaning.specs.Requests.{sql, IsSid}
-use Rattle.sql_meaning.specs.Picks.{no_pick}
-use Rattle.sql_meaning.specs.World.{World, Cursor, Session, with_session}
-use Rattle.sql_meaning.specs.Cursors.{IsBareQuery, is_cursor, rows_leased, cursor_named, without_cursor, hand_out, with_handed, Fetches}
-use Rattle.sql_meaning.specs.Causes.{CursorCauses, NoneBeforeState}
-use Rattle.sql_meaning.specs.Replies.{done, answered, refused}
-use Rattle.sql_meaning.specs.Steps.{Turns, is_done, source_fails, fetch_lacks_memory}
+use Rattle.sql_meaning.specs.Prelude.{sql, IsSid, no_pick, World, Cursor, Session, with_session, IsBareQuery, is_cursor, rows_leased, cursor_named, without_cursor, hand_out, with_handed, Fetches, CursorCauses, NoneBeforeState, done, answered, refused, Turns, is_done, source_fails, fetch_lacks_memory}
 use Rattle.med_world.specs.Seats.{seat_of, asked_in, asked_of, opened_in, CursorAgrees, CursorsAgree}
 use Rattle.med_world.specs.Engine.{Shown, IsSound, Agrees, GivesWithin, IsBareCursor, AsksCursor, Leads}
 use Rattle.med_world.specs.Turning.{with_cursors, having_asked, IsOfOpen, Ends}
 use Rattle.med_world.specs.Laws.{IsRead}
-use Rattle.med_world.proofs.Lists.{none_some, some_same}
+use Rattle.med_world.proofs.Lists.{none_some}
 use Rattle.med_world.proofs.Seats.{stands_still, cursors_stay}
 use Rattle.med_world.proofs.Faring.{none_rises}
 use Rattle.med_world.proofs.Asks.{asks_refused, asks_read}
@@ -114,7 +107,7 @@ none_fetched e w sid text seat name asked o a read at here d x =
 bare_run : (e : Shown) (sid : ℕ) (seat : Seated) (name : Name) (o : Opened) → IsSid sid → seat_of e.seats sid ≡ Some seat → opened_named name seat.cursors ≡ Some o → IsBareCursor e sid name → GivesAsTheyCome o.run
 bare_run e sid seat name o is at here (w, s, c, a, session, named, bare) =
     let f = found_at e w sid seat name o is at a here in
-    let same : f.cursor ≡ c = some_same f.cursor c (sym f.is ∙ ap (λ (x : Option Session). find (is_cursor name) (cursors_in x)) session ∙ named) in
+    let same : f.cursor ≡ c = same_Some f.cursor c (sym f.is ∙ ap (λ (x : Option Session). find (is_cursor name) (cursors_in x)) session ∙ named) in
     f.agrees.bare (subst (λ (x : Cursor). IsBareQuery x.query) (sym same) bare)
 
 -- so that few rows are given: to a FETCH that gives them, and to one that is refused

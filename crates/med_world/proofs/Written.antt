@@ -3,31 +3,25 @@ use Rattle.std.proofs.Common.{◌≡◌, ◌≢◌, ℕ, ◌+◌, ◌⊎◌, tru
 use Rattle.std.proofs.lemmas.Bool.{false≢true}
 use Rattle.std.proofs.lemmas.Bool.Decides.{eqb_tells}
 use Rattle.std.proofs.lemmas.List.Sorted.{IsPermutation-trans}
+use Rattle.std.proofs.lemmas.Option.{same_Some}
 use Rattle.med_value.specs.Datum.{Tuple}
-use Rattle.med_syntax.specs.Tree.{Name}
-use Rattle.med_syntax.specs.WriteTree.{WriteTree}
+use Rattle.med_syntax.specs.Prelude.{Name, WriteTree}
 use Rattle.tri_expr.proofs.Shuffled.{Shuffled, back, to_swaps, from_swaps, same as same_shuffled}
-use Rattle.fdw_api.specs.Kinds.{Kind, Entry, Holding, Known, Unknown, Held, held}
-use Rattle.fdw_api.specs.Scan.{TableRow}
-use Rattle.fdw_api.specs.State.{Nature, BoxTable, BoxState, is_honest, table_of, scan_of, rows_of}
-use Rattle.fdw_api.specs.Calls.{NoScan}
-use Rattle.fdw_api.specs.Writes.{HoldsImage, Written}
+use Rattle.fdw_api.specs.Prelude.{Kind, Entry, Holding, Known, Unknown, Held, held, TableRow, Nature, BoxTable, BoxState, is_honest, table_of, scan_of, rows_of, NoScan, HoldsImage, Written}
 use Rattle.med_exec.specs.Slots.{ChangesAt}
 use Rattle.med_write.specs.Writing.{rows_after}
 use Rattle.med_exec.proofs.WrittenRows.{rows_written}
 use Rattle.bind_write.specs.Meaning.{target_of}
 use Rattle.med_catalog.specs.Objects.{ServerObject, TableObject, Objects, server_named, table_named}
 use Rattle.med_binder.specs.Places.{Attached}
-use Rattle.sql_meaning.specs.World.{World, standing, is_shared_server, is_shared, rows_with, rows_named, holding_at, holds_at, with_state}
-use Rattle.sql_meaning.specs.Causes.{rows_held, writes_shared, IsTarget}
-use Rattle.sql_meaning.specs.Steps.{holding_after}
+use Rattle.sql_meaning.specs.Prelude.{World, standing, is_shared_server, is_shared, rows_with, rows_named, holding_at, holds_at, with_state, rows_held, writes_shared, IsTarget, holding_after}
 use Rattle.med_world.specs.Engine.{Shown, IsServerAt, IsWrittenAs, IsBoundAs, IsSound, IsFirst, state_of, sources_of, AreRowsOf, RowsAgree, Agrees, Rises, EachRises, leased}
 use Rattle.med_world.specs.Writing.{columns_for, form_for, IsTargetAt, DoesWrite}
 use Rattle.med_world.specs.Laws.{with_boxes}
 use Rattle.med_world.proofs.Seats.{sessions_stay, sessions_still, leases_same, named_apart, written_stands}
 use Rattle.med_world.proofs.Scans.{leases_itself, all_stay, unleased_scan}
 use Rattle.med_world.proofs.ScansChanged.{IsQuiet, quiet_left, quiet_scans, first_named}
-use Rattle.med_world.proofs.Lists.{some_same, bytes_same, bytes_other}
+use Rattle.med_world.proofs.Lists.{bytes_same, bytes_other}
 use Rattle.med_world.proofs.Faring.{same_box, changes_by, changes_rise, rises_itself, was_there, is_there}
 use Rattle.med_world.proofs.Altered.{sources_set, serves_at, shared_at, honest_at}
 use Rattle.med_world.proofs.States.{honest_state, honest_since, same_state}
@@ -343,7 +337,7 @@ done_agrees e w t answer at count new sound free target_at h a honest = record {
     state_is = honest_state c honest_now ∙ (λ i. standing (h.change.writes.nature i).kind (holdings_are i)) ∙ sym (ap (holds_at x.table.remote now) (honest_state b honest))
 
     source_is : target.serves.at.source ≡ x.server.at.source
-    source_is = ap (λ (s : ServerObject). s.source) (some_same target.serves.at x.server.at (sym target.serves.is ∙ ap (λ (o : Objects). server_named o x.table.server) a.catalog ∙ x.server.is))
+    source_is = ap (λ (s : ServerObject). s.source) (same_Some target.serves.at x.server.at (sym target.serves.is ∙ ap (λ (o : Objects). server_named o x.table.server) a.catalog ∙ x.server.is))
 
     sources : after.sources ≡ sources_of e.labels new
     sources =

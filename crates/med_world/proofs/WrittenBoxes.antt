@@ -7,20 +7,14 @@ use Rattle.std.proofs.lemmas.List.Folds.{list_all-map}
 use Rattle.med_value.specs.Datum.{Tuple}
 use Rattle.med_value.specs.declared.value.ColType.{ColType}
 use Rattle.tri_expr.proofs.Shuffled.{all_kept}
-use Rattle.fdw_api.specs.Scan.{GivenRow, TableRow, row_fits}
-use Rattle.fdw_api.specs.State.{BoxTable, Staging, Ledger, BoxState, is_honest, rows_of}
-use Rattle.fdw_api.specs.Calls.{bumped, faults_after}
-use Rattle.fdw_api.specs.Writes.{Written, Closes, row_of_change_fits}
-use Rattle.fdw_api.specs.Sound.{IsTableOf, IsSoundBox}
+use Rattle.fdw_api.specs.Prelude.{GivenRow, TableRow, row_fits, BoxTable, Staging, Ledger, BoxState, is_honest, rows_of, bumped, faults_after, Written, Closes, row_of_change_fits, IsTableOf, IsSoundBox}
 use Rattle.fdw_api.specs.declared.interface.Fault.{Fault}
 use Rattle.fdw_api.specs.declared.interface.Fault.TheVariants.{Source}
 use Rattle.fdw_api.proofs.SoundBoxes.{closes}
-use Rattle.med_exec.specs.Reading.{pulled_after}
-use Rattle.med_exec.specs.Running.{HasFailed}
+use Rattle.med_exec.specs.Prelude.{pulled_after, HasFailed, are_typed}
 use Rattle.med_exec.proofs.Served.{honest_on, ServedAlone}
 use Rattle.med_write.specs.declared.write.WrittenColumn.{WrittenColumn}
 use Rattle.med_write.specs.Form.{WriteForm, insert_form, update_form, delete_form}
-use Rattle.med_exec.specs.WriteReading.{are_typed}
 use Rattle.med_exec.specs.Writing.{CanWrite, scans_of, AreRead, Writes, Bars, lacks_memory, source_fails, gives_twice, numbers_end, write_shows, kind_refuses, RefusesWrite}
 use Rattle.med_exec.proofs.ChangesFit.{changes_fit}
 use Rattle.sql_meaning.specs.Picks.{as_given}

@@ -2,15 +2,11 @@
 use Rattle.std.specs.Prelude.{◌≡◌, ◌≤◌, ℕ, false}
 use Rattle.med_value.specs.declared.cause.Cause.{Cause}
 use Rattle.med_value.specs.declared.cause.Cause.TheVariants.{UnableToConnect, OutOfMemory}
-use Rattle.med_syntax.specs.Tree.{Name}
-use Rattle.fdw_api.specs.State.{BoxState}
-use Rattle.fdw_api.specs.Calls.{Binds, Unbinds, RefusesBind}
+use Rattle.med_syntax.specs.Prelude.{Name, DdlTree}
+use Rattle.fdw_api.specs.Prelude.{BoxState, Binds, Unbinds, RefusesBind}
 use Rattle.fdw_api.specs.declared.interface.Fault.{Fault}
 use Rattle.med_exec.specs.Slots.{ChangesAt}
-use Rattle.med_syntax.specs.DdlTree.{DdlTree}
-use Rattle.med_catalog.specs.Objects.{ServerObject, TableObject}
-use Rattle.med_catalog.specs.Changes.{ObjectChange, new_server, new_table, Asks}
-use Rattle.med_catalog.specs.DdlCauses.{DdlCauses, phase}
+use Rattle.med_catalog.specs.Prelude.{ServerObject, TableObject, ObjectChange, new_server, new_table, Asks, DdlCauses, phase}
 use Rattle.sql_meaning.specs.World.{is_taken}
 use Rattle.med_world.specs.Engine.{Shown, leased, IsServerAt, IsStandingAt, Alters}
 use Rattle.med_world.specs.Fetching.{cause_of}

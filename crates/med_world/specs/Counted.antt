@@ -2,8 +2,7 @@
 use Rattle.std.specs.Prelude.{List, Option}
 use Rattle.fdw_api.specs.State.{BoxState}
 use Rattle.med_binder.specs.Place.{Place}
-use Rattle.med_exec.specs.Counting.{BeginsScans}
-use Rattle.med_exec.specs.BoundCounting.{tables_in}
+use Rattle.med_exec.specs.Prelude.{BeginsScans, tables_in}
 
 -- Each of these tables was read in one scan of its own, and no other scan was begun. How often a scan gives a row is not said: its box may
 -- leave rows out that it was offered a restriction of, a LIMIT ends it early, and one that stands inside of another is read again.

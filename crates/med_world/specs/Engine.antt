@@ -2,42 +2,25 @@
 use Rattle.std.specs.Prelude.{◌≡◌, ◌<◌, ◌≤◌, ◌-◌, ◌^◌, ℕ, zero, suc, Bool, true, false, List, [], ◌∷◌, ◌++◌, map, length, Option, Some, None, cond, min, slice_get, slice_set, Contains, IsPermutation, bytes_eq, IsSome}
 use Rattle.std.specs.List.{IsDistinct}
 use Rattle.med_value.specs.declared.cause.Cause.{Cause}
-use Rattle.med_syntax.specs.Tree.{Name}
-use Rattle.med_syntax.specs.QueryTree.{SelectTree, select}
-use Rattle.fdw_api.specs.Kinds.{Column, Kind, Held, held, kinds_of}
-use Rattle.fdw_api.specs.State.{Scan, BoxState, BoxTable, IsIdle, is_honest, table_of, scan_of, rows_of}
-use Rattle.fdw_api.specs.Calls.{Binds, Unbinds}
-use Rattle.fdw_api.specs.Sound.{IsSoundBox}
-use Rattle.med_binder.specs.Place.{Place}
-use Rattle.med_exec.specs.Slots.{BoxAt, ChangesAt}
-use Rattle.med_exec.specs.Running.{SlotShows, HasFailed, IsUsedUp}
+use Rattle.med_syntax.specs.Prelude.{Name, SelectTree, select, TableTree, CountTree, some_rows, all_rows, declare, fetch}
+use Rattle.fdw_api.specs.Prelude.{Column, Kind, Held, held, kinds_of, Scan, BoxState, BoxTable, IsIdle, is_honest, table_of, scan_of, rows_of, Binds, Unbinds, IsSoundBox}
+use Rattle.med_binder.specs.Prelude.{Place, Attached, ArePlaces, meant_by}
+use Rattle.med_exec.specs.Prelude.{BoxAt, ChangesAt, SlotShows, HasFailed, IsUsedUp, pulled_at, PullsAtMost, PullsNone, many_in}
 use Rattle.med_exec.specs.Rests.{held as scans_held, IsRunning}
-use Rattle.med_exec.specs.Pulling.{pulled_at, PullsAtMost, PullsNone, many_in}
 use Rattle.med_exec.specs.declared.running.Run.{Run}
 use Rattle.med_planner.specs.Plain.{IsPlainForm}
-use Rattle.med_binder.specs.Places.{Attached, ArePlaces}
-use Rattle.med_binder.specs.Queries.{meant_by}
 use Rattle.med_value.specs.Limits.{session_count, source_limit}
-use Rattle.sql_meaning.specs.Requests.{AskedLine, sql, IsSid, IsUser}
+use Rattle.sql_meaning.specs.Prelude.{AskedLine, sql, IsSid, IsUser, World, Cursor, Session, Source, SourceState, standing, shared, dropped, with_session, without_sessions, beside_without, cursor_named, IsBareQuery, Trouble, Step, Reply, done, answered, refused, reply_text}
 use Rattle.med_catalog.specs.declared.kind.SourceKind.{SourceKind}
-use Rattle.med_catalog.specs.Objects.{ServerObject, TableObject, Objects, server_named}
-use Rattle.med_syntax.specs.DdlTree.{TableTree}
-use Rattle.med_syntax.specs.CursorTree.{CountTree, some_rows, all_rows, declare, fetch}
+use Rattle.med_catalog.specs.Prelude.{ServerObject, TableObject, Objects, server_named, table_settings, column_settings, Stands, create_table_rows, AreDeclared, ObjectChange, new_table, no_server, no_table, changed}
 use Rattle.med_parser.specs.CommandTree.{CommandTree, on_data, on_cursors}
 use Rattle.med_parser.specs.CommandGrammar.{HasCommand}
-use Rattle.med_catalog.specs.Options.{table_settings, column_settings}
-use Rattle.med_catalog.specs.DdlCauses.{Stands, create_table_rows}
-use Rattle.med_catalog.specs.Changes.{AreDeclared, ObjectChange, new_table, no_server, no_table, changed}
 use Rattle.med_world.specs.Counted.{ReadsTables}
 use Rattle.med_world.specs.Fetching.{HasRisen, PullsFetched}
 use Rattle.med_world.specs.Open.{Opened, Seated, leases_table, any_leases}
-use Rattle.sql_meaning.specs.World.{World, Cursor, Session, Source, SourceState, standing, shared, dropped, with_session, without_sessions, beside_without}
-use Rattle.sql_meaning.specs.Cursors.{cursor_named, IsBareQuery}
 use Rattle.med_world.specs.Selecting.{PullsAgreed}
 use Rattle.med_world.specs.Starting.{OpensEach}
 use Rattle.med_world.specs.Seats.{seat_of, asked_of, opened_at, IsOpenAt, AreSoundSeats, SeatAgrees}
-use Rattle.sql_meaning.specs.Steps.{Trouble, Step}
-use Rattle.sql_meaning.specs.Replies.{Reply, done, answered, refused, reply_text}
 
 -- a source as it was added: its name, and its kind
 pub record Label : Type 0 where

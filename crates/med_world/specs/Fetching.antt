@@ -10,10 +10,8 @@ use Rattle.fdw_api.specs.declared.interface.Fault.TheVariants.{NoMemory, Source,
 use Rattle.med_syntax.specs.CursorTree.{CountTree, some_rows, all_rows}
 use Rattle.scan_loops.specs.Running.{HonestFor}
 use Rattle.med_exec.specs.declared.running.Run.{Run}
-use Rattle.med_exec.specs.Running.{ServesRun, SlotShows, HasFailed}
+use Rattle.med_exec.specs.Prelude.{ServesRun, SlotShows, HasFailed, KeepTables, levels_in, slot_in, skip_in, limit_in, pulled_at, PullsAtMost, PullsNone, many_in, IsBareRun, pulls_left}
 use Rattle.med_exec.specs.Rests.{Rests, held, IsRunning}
-use Rattle.med_exec.specs.Leaving.{KeepTables}
-use Rattle.med_exec.specs.Pulling.{levels_in, slot_in, skip_in, limit_in, pulled_at, PullsAtMost, PullsNone, many_in, IsBareRun, pulls_left}
 
 -- so many are as many as were asked for
 abbrev pub has_enough : CountTree → ℕ → Bool

@@ -10,3 +10,4 @@ pub mod Writing
 pub mod Turning
 pub mod Laws
 pub mod Adding
+pub mod Prelude

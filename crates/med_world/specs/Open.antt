@@ -5,9 +5,8 @@ use Rattle.med_value.specs.Limits.{cursor_limit}
 use Rattle.med_syntax.specs.Tree.{Name}
 use Rattle.fdw_api.specs.State.{BoxState}
 use Rattle.med_exec.specs.declared.running.Run.{Run}
-use Rattle.med_exec.specs.Running.{Held}
+use Rattle.med_exec.specs.Prelude.{Held, AreApart}
 use Rattle.med_exec.specs.Rests.{held, IsHeld}
-use Rattle.med_exec.specs.Leaving.{AreApart}
 use Rattle.med_world.specs.declared.cursors.OpenCursor.{OpenCursor}
 use Rattle.med_world.specs.declared.cursors.Seat.{Seat}
 

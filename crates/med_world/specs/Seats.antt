@@ -1,17 +1,15 @@
 -- What an engine has of its sessions and their cursors, and when a world's sessions agree with it.
 use Rattle.std.specs.Prelude.{◌≡◌, ◌-◌, ◌≤◌, ℕ, false, List, [], ◌∷◌, ◌++◌, map, length, Option, Some, None, IsSome, option_map, slice_get, Contains}
-use Rattle.med_value.specs.Datum.{Tuple}
+use Rattle.med_value.specs.Prelude.{Tuple, cursor_limit}
 use Rattle.med_syntax.specs.Tree.{Name}
 use Rattle.med_query.specs.Query.{IsAnswer}
 use Rattle.fdw_api.specs.State.{BoxState}
 use Rattle.scan_loops.specs.Running.{HonestFor}
-use Rattle.med_exec.specs.Pulling.{levels_in, GivesAsTheyCome}
+use Rattle.med_exec.specs.Prelude.{levels_in, GivesAsTheyCome}
 use Rattle.med_exec.specs.Rests.{Rests}
 use Rattle.med_catalog.specs.Objects.{table_named}
 use Rattle.med_world.specs.Open.{Opened, Seated, AreNamedApart, opened_named}
-use Rattle.med_value.specs.Limits.{cursor_limit}
-use Rattle.sql_meaning.specs.World.{World, Leased, Cursor, Session, cells_of, rows_named}
-use Rattle.sql_meaning.specs.Cursors.{rows_leased, IsBareQuery}
+use Rattle.sql_meaning.specs.Prelude.{World, Leased, Cursor, Session, cells_of, rows_named, rows_leased, IsBareQuery}
 
 -- ---- by the number of the session
 

@@ -3,24 +3,17 @@ use Rattle.std.specs.Prelude.{◌≡◌, true, false, List, map, Option}
 use Rattle.med_value.specs.Datum.{Tuple}
 use Rattle.med_value.specs.declared.cause.Cause.{Cause}
 use Rattle.med_value.specs.declared.cause.Cause.TheVariants.{LimitExceeded}
-use Rattle.med_syntax.specs.Tree.{Name}
-use Rattle.med_syntax.specs.QueryTree.{SelectTree}
-use Rattle.med_query.specs.Query.{Query, Tables, SameRows, IsAnswer}
+use Rattle.med_syntax.specs.Prelude.{Name, SelectTree}
+use Rattle.med_query.specs.Prelude.{Query, Tables, SameRows, IsAnswer, Form, form_of, IsShownCause}
 use Rattle.fdw_api.specs.State.{BoxState}
-use Rattle.med_query.specs.Form.{Form, form_of}
-use Rattle.med_binder.specs.Place.{Place, entry_place}
+use Rattle.med_binder.specs.Prelude.{Place, entry_place, meant_by, IsBindable, NotBound, Attached, ArePlaces}
 use Rattle.med_binder.specs.declared.bound.BoundQuery.{BoundQuery}
-use Rattle.med_exec.specs.BoundPulling.{PullsRows}
-use Rattle.med_query.specs.Causes.{IsShownCause}
+use Rattle.med_exec.specs.Prelude.{PullsRows, AllServed, HonestOver}
 use Rattle.med_planner.specs.Planned.{entry_rows}
-use Rattle.med_exec.specs.Running.{AllServed, HonestOver}
 use Rattle.med_world.specs.Counted.{ReadsTables}
 use Rattle.med_world.specs.Starting.{RunFails}
-use Rattle.med_binder.specs.Queries.{meant_by, IsBindable, NotBound}
-use Rattle.med_binder.specs.Places.{Attached, ArePlaces}
 use Rattle.med_catalog.specs.Objects.{Objects}
-use Rattle.sql_meaning.specs.Causes.{query_of}
-use Rattle.sql_meaning.specs.Sizes.{is_large_form}
+use Rattle.sql_meaning.specs.Prelude.{query_of, is_large_form}
 
 -- the same in whatever order the rows come, where the boxes of its tables are honest
 pub record AnswersOver (q : Query) (places : List Place) (boxes : List (Option BoxState)) (rows : List Tuple) : Type 0 where

@@ -1,34 +1,22 @@
 -- What DECLARE does to the boxes, and why it is refused (SQL:2016, <declare cursor>; PostgreSQL: Writing a Foreign Data Wrapper,
 -- BeginForeignScan).
 use Rattle.std.specs.Prelude.{◌≡◌, ◌<◌, Bool, true, false, List, length, map, Option}
-use Rattle.med_value.specs.Datum.{Tuple}
-use Rattle.med_value.specs.Causes.{phase_of}
+use Rattle.med_value.specs.Prelude.{Tuple, phase_of}
 use Rattle.med_value.specs.declared.cause.Cause.{Cause}
 use Rattle.med_value.specs.declared.cause.Cause.TheVariants.{FeatureNotSupported, LimitExceeded, OutOfMemory, SourceFault}
-use Rattle.med_syntax.specs.Tree.{Name}
-use Rattle.med_syntax.specs.QueryTree.{EntryTree, SelectTree}
+use Rattle.med_syntax.specs.Prelude.{Name, EntryTree, SelectTree}
 use Rattle.bind_names.specs.Scope.{query_entries, query_scope}
-use Rattle.med_query.specs.Query.{Query, Tables, SameRows, IsAnswer}
-use Rattle.med_query.specs.Form.{form_of, query_by, is_risky_form}
+use Rattle.med_query.specs.Prelude.{Query, Tables, SameRows, IsAnswer, form_of, query_by, is_risky_form, IsShownCause}
 use Rattle.med_planner.specs.Plain.{IsPlainForm, IsBareForm}
-use Rattle.fdw_api.specs.Kinds.{is_of_run}
-use Rattle.fdw_api.specs.State.{BoxState}
-use Rattle.med_binder.specs.Place.{Place, entry_place}
-use Rattle.med_binder.specs.Counted.{bound_widths}
-use Rattle.med_binder.specs.Within.{widths}
+use Rattle.fdw_api.specs.Prelude.{is_of_run, BoxState}
+use Rattle.med_binder.specs.Prelude.{Place, entry_place, bound_widths, widths, meant_by, IsBindable, NotBound, Attached, ArePlaces, shapes}
 use Rattle.med_binder.specs.declared.bound.BoundQuery.{BoundQuery}
 use Rattle.med_planner.specs.Offered.{core_offers}
-use Rattle.med_exec.specs.Starting.{HoldsOpen}
-use Rattle.med_query.specs.Causes.{IsShownCause}
+use Rattle.med_exec.specs.Prelude.{HoldsOpen, HonestOver, AllServed, ServesRun, SlotShows, HasFailed, IsUsedUp, none_held, PullsNone, GivesAsTheyCome}
+use Rattle.med_exec.specs.Rests.{Rests, held, IsRunning}
 use Rattle.med_planner.specs.Planned.{entry_rows}
 use Rattle.med_exec.specs.declared.running.Run.{Run}
-use Rattle.med_exec.specs.Running.{HonestOver, AllServed, ServesRun, SlotShows, HasFailed, IsUsedUp, none_held}
-use Rattle.med_exec.specs.Rests.{Rests, held, IsRunning}
-use Rattle.med_exec.specs.Pulling.{PullsNone, GivesAsTheyCome}
 use Rattle.med_catalog.specs.Objects.{Objects}
-use Rattle.med_binder.specs.Queries.{meant_by, IsBindable, NotBound}
-use Rattle.med_binder.specs.Places.{Attached, ArePlaces}
-use Rattle.med_binder.specs.Tables.{shapes}
 use Rattle.sql_meaning.specs.Sizes.{is_large_form}
 use Rattle.med_world.specs.Counted.{ReadsTables}
 -- of which tables the scans are that a run holds

@@ -1,11 +1,9 @@
 -- What the engine's statements on cursors do: DECLARE, FETCH and CLOSE.
 use Rattle.std.specs.Prelude.{◌≡◌, ◌-◌, ℕ, List, Option, Some, slice_set}
-use Rattle.med_syntax.specs.Tree.{Name}
-use Rattle.med_syntax.specs.QueryTree.{SelectTree}
-use Rattle.med_syntax.specs.CursorTree.{CursorTree, declare, fetch, close}
+use Rattle.med_syntax.specs.Prelude.{Name, SelectTree, CursorTree, declare, fetch, close}
 use Rattle.fdw_api.specs.State.{BoxState}
 use Rattle.med_exec.specs.declared.running.Run.{Run}
-use Rattle.med_exec.specs.Running.{ServesRun, none_held}
+use Rattle.med_exec.specs.Prelude.{ServesRun, none_held}
 use Rattle.med_exec.specs.Rests.{held}
 use Rattle.med_world.specs.Open.{Opened, Seated}
 use Rattle.med_world.specs.Starting.{leases_of}

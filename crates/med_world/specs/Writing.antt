@@ -3,26 +3,18 @@ use Rattle.std.specs.Prelude.{◌≡◌, ℕ, Bool, true, false, List, [], map, 
 use Rattle.med_value.specs.Datum.{Tuple}
 use Rattle.med_value.specs.declared.cause.Cause.{Cause}
 use Rattle.med_value.specs.declared.cause.Cause.TheVariants.{LimitExceeded, InUse, SourceFault}
-use Rattle.med_syntax.specs.Tree.{Name}
-use Rattle.med_syntax.specs.QueryTree.{SelectTree}
-use Rattle.med_syntax.specs.WriteTree.{GivenTree, values, rows_of, WriteTree, insert, update, delete}
+use Rattle.med_syntax.specs.Prelude.{Name, SelectTree, GivenTree, values, rows_of, WriteTree, insert, update, delete}
 use Rattle.fdw_api.specs.State.{BoxState}
 use Rattle.fdw_api.specs.declared.interface.Fault.{Fault}
-use Rattle.med_binder.specs.Place.{Place}
-use Rattle.med_exec.specs.Slots.{ChangesAt}
-use Rattle.med_exec.specs.Running.{AllServed, HonestOver}
+use Rattle.med_binder.specs.Prelude.{Place, Attached, ArePlaces, meant_by, shapes}
+use Rattle.med_exec.specs.Prelude.{ChangesAt, AllServed, HonestOver, CanWrite, Writes, RefusesWrite}
 use Rattle.med_catalog.specs.Objects.{Objects}
 use Rattle.bind_names.specs.Scope.{place_named}
-use Rattle.med_binder.specs.Places.{Attached, ArePlaces}
-use Rattle.med_binder.specs.Queries.{meant_by}
-use Rattle.med_binder.specs.Tables.{shapes}
 use Rattle.med_write.specs.declared.write.WrittenColumn.{WrittenColumn}
 use Rattle.med_write.specs.Form.{WriteForm}
-use Rattle.med_exec.specs.Writing.{CanWrite, Writes, RefusesWrite}
 use Rattle.bind_write.specs.Meaning.{target_of, columns_in, written_column, write_meant}
 use Rattle.bind_write.specs.Binding.{IsBindable, NotBound}
-use Rattle.sql_meaning.specs.Causes.{query_of, OfQuery}
-use Rattle.sql_meaning.specs.Sizes.{is_large_form}
+use Rattle.sql_meaning.specs.Prelude.{query_of, OfQuery, is_large_form}
 use Rattle.med_world.specs.Fetching.{cause_of}
 use Rattle.med_world.specs.Counted.{ReadsTables}
 use Rattle.med_world.specs.Starting.{RunFails}

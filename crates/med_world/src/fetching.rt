@@ -2,10 +2,7 @@
 ghost use Rattle.std.specs.Prelude.{◌≡◌, map, IfOk, IfErr};
 ghost use Rattle.med_value.specs.Datum.{tuple};
 ghost use Rattle.med_syntax.specs.CursorView.{count_tree};
-ghost use Rattle.med_exec.specs.Slots.{states};
-ghost use Rattle.med_exec.specs.Counting.{BeginsScans};
-ghost use Rattle.med_exec.specs.Pulling.{PullsNone};
-ghost use Rattle.med_exec.specs.Running.{ServesRun, Breaks, none_held};
+ghost use Rattle.med_exec.specs.Prelude.{states, BeginsScans, PullsNone, ServesRun, Breaks, none_held};
 ghost use Rattle.med_exec.specs.Rests.{held, IsRunning, IsHeld};
 ghost use Rattle.med_world.specs.Open.{opened, held_by, AreHeld, AreOwn};
 ghost use Rattle.med_world.specs.Fetching.{has_enough, GivesRows, GivesNone, HasRisen, PullsFetched, cause_of};

@@ -6,9 +6,7 @@ use Rattle.med_value.specs.Datum.{Datum, NoValue, Tuple, datum}
 use Rattle.med_value.specs.declared.value.Value.{Value}
 use Rattle.tri_expr.specs.declared.expr.Fault.{Fault}
 use Rattle.tri_expr.specs.declared.expr.EvalFault.{EvalFault}
-use Rattle.tri_expr.specs.Tree.{Tree}
-use Rattle.tri_expr.specs.Outcome.{Outcome, Is}
-use Rattle.tri_expr.specs.Verdict.{fault_list}
+use Rattle.tri_expr.specs.Prelude.{Tree, Outcome, Is, fault_list}
 use Rattle.med_query.specs.Query.{IsTold}
 use Rattle.med_query.proofs.Telling.{tells_more, fault_list-append}
 use Rattle.med_write.specs.Writing.{outcomes_of, value_for, cell_after, cells_after}

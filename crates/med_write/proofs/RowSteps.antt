@@ -6,8 +6,7 @@ use Rattle.std.proofs.lemmas.List.Elements.{filter-append}
 use Rattle.std.proofs.lemmas.List.Folds.{list_any-append}
 use Rattle.std.proofs.lemmas.Grind.{flat_map-append}
 use Rattle.med_value.specs.Datum.{Tuple}
-use Rattle.tri_expr.specs.Outcome.{Outcome, value_of}
-use Rattle.tri_expr.specs.Verdict.{fault_list}
+use Rattle.tri_expr.specs.Prelude.{Outcome, value_of, fault_list}
 use Rattle.med_query.proofs.Telling.{tells_more, contains_seen}
 use Rattle.fdw_api.specs.Kinds.{Change}
 use Rattle.med_write.specs.declared.write.WrittenColumn.{WrittenColumn}

@@ -5,12 +5,9 @@ use Rattle.std.proofs.lemmas.List.{append-nil, map-append}
 use Rattle.std.proofs.lemmas.List.Elements.{filter-append, All-head, All-tail, All-map, All-weaker}
 use Rattle.std.proofs.lemmas.Grind.{flat_map-append}
 use Rattle.med_value.specs.Datum.{Tuple, NoValue, Whole, Chars, Logic}
-use Rattle.tri_expr.specs.Outcome.{Outcome, Is, Fails, value_of}
-use Rattle.tri_expr.specs.Meaning.{OnClass}
-use Rattle.tri_expr.specs.Verdict.{is_refusal, is_in, fault_list}
+use Rattle.tri_expr.specs.Prelude.{Outcome, Is, Fails, value_of, OnClass, is_refusal, is_in, fault_list}
 use Rattle.med_query.specs.Query.{on_row, keeps}
-use Rattle.fdw_api.specs.Kinds.{Updates, Deletes}
-use Rattle.fdw_api.specs.Scan.{GivenRow}
+use Rattle.fdw_api.specs.Prelude.{Updates, Deletes, GivenRow}
 use Rattle.med_write.specs.declared.write.WrittenColumn.{WrittenColumn}
 use Rattle.med_write.specs.Form.{WriteForm, insert_form, update_form, delete_form}
 use Rattle.med_write.specs.Writing.{row_made, chosen_by, rows_chosen, rows_written, count_of, choice_faults, lacks_value, changes_of}

@@ -4,14 +4,10 @@ use Rattle.std.proofs.lemmas.List.{length-map}
 use Rattle.std.proofs.lemmas.List.Elements.{Contains-append_left, Contains-append_right}
 use Rattle.med_value.specs.Datum.{Tuple}
 use Rattle.tri_expr.specs.declared.expr.EvalFault.{EvalFault}
-use Rattle.tri_expr.specs.Tree.{Tree}
-use Rattle.tri_expr.specs.Outcome.{Outcome, value_of}
-use Rattle.tri_expr.specs.Meaning.{OnClass, means}
-use Rattle.tri_expr.specs.Verdict.{fault_list}
+use Rattle.tri_expr.specs.Prelude.{Tree, Outcome, value_of, OnClass, means, fault_list}
 use Rattle.med_query.specs.Query.{IsTold, keeps}
 use Rattle.med_query.proofs.Telling.{tells_more}
-use Rattle.fdw_api.specs.Kinds.{Change, Inserts, Updates, Deletes}
-use Rattle.fdw_api.specs.Scan.{GivenRow}
+use Rattle.fdw_api.specs.Prelude.{Change, Inserts, Updates, Deletes, GivenRow}
 use Rattle.med_write.specs.declared.write.WrittenColumn.{WrittenColumn}
 use Rattle.med_write.specs.declared.write.WriteFault.{WriteFault}
 use Rattle.med_write.specs.declared.write.WriteFault.TheVariants.{Evaluation, NotNull}

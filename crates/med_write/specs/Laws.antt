@@ -2,8 +2,7 @@
 use Rattle.std.specs.Prelude.{◌≡◌, Bool, true, List, ◌++◌, All}
 use Rattle.std.specs.List.{list_any}
 use Rattle.med_value.specs.Datum.{Tuple}
-use Rattle.tri_expr.specs.Meaning.{OnClass}
-use Rattle.tri_expr.specs.Verdict.{is_refusal}
+use Rattle.tri_expr.specs.Prelude.{OnClass, is_refusal}
 use Rattle.med_query.specs.Query.{on_row}
 use Rattle.fdw_api.specs.Scan.{GivenRow}
 use Rattle.med_write.specs.declared.write.WrittenColumn.{WrittenColumn}

@@ -5,12 +5,9 @@ use Rattle.med_value.specs.Datum.{Tuple, datum}
 use Rattle.med_value.specs.declared.value.Value.{Value}
 use Rattle.tri_expr.specs.declared.expr.Fault.{Fault}
 use Rattle.tri_expr.specs.declared.expr.EvalFault.{EvalFault}
-use Rattle.tri_expr.specs.Outcome.{Outcome, Is, value_of}
-use Rattle.tri_expr.specs.Meaning.{OnClass}
-use Rattle.tri_expr.specs.Verdict.{fault_list}
+use Rattle.tri_expr.specs.Prelude.{Outcome, Is, value_of, OnClass, fault_list}
 use Rattle.med_query.specs.Query.{IsTold, keeps}
-use Rattle.fdw_api.specs.Kinds.{Change}
-use Rattle.fdw_api.specs.Scan.{GivenRow}
+use Rattle.fdw_api.specs.Prelude.{Change, GivenRow}
 use Rattle.med_write.specs.declared.write.WrittenColumn.{WrittenColumn}
 use Rattle.med_write.specs.declared.write.WriteFault.{WriteFault}
 use Rattle.med_write.specs.declared.write.WriteFault.TheVariants.{Evaluation, NotNull}

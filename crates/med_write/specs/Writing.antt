@@ -3,13 +3,9 @@ use Rattle.std.specs.Prelude.{ℕ, suc, Bool, true, false, not, ◌&&◌, ◌||�
 use Rattle.std.specs.List.{list_any}
 use Rattle.med_value.specs.Datum.{NoValue, Tuple, cell}
 use Rattle.tri_expr.specs.declared.expr.Fault.{Fault}
-use Rattle.tri_expr.specs.Outcome.{Outcome, Is, value_of}
-use Rattle.tri_expr.specs.Meaning.{OnClass, tree_meaning, means}
-use Rattle.tri_expr.specs.Verdict.{faults_told, fault_list}
-use Rattle.tri_expr.specs.Tree.{Tree}
+use Rattle.tri_expr.specs.Prelude.{Outcome, Is, value_of, OnClass, tree_meaning, means, faults_told, fault_list, Tree}
 use Rattle.med_query.specs.Query.{keeps, on_row}
-use Rattle.fdw_api.specs.Kinds.{Held, Change, Inserts, Updates, Deletes}
-use Rattle.fdw_api.specs.Scan.{GivenRow}
+use Rattle.fdw_api.specs.Prelude.{Held, Change, Inserts, Updates, Deletes, GivenRow}
 use Rattle.med_write.specs.declared.write.WrittenColumn.{WrittenColumn}
 use Rattle.med_write.specs.Form.{GivenForm, values_form, answer_form, WriteForm, insert_form, update_form, delete_form}
 

@@ -1,9 +1,7 @@
 //! The cells of rows that are written.
 ghost use Rattle.std.specs.Prelude.{◌≡◌, ◌∷◌, ◌++◌, [], IfOk, map, option_map};
 ghost use Rattle.med_value.specs.Datum.{datum, tuple};
-ghost use Rattle.tri_expr.specs.Outcome.{Is};
-ghost use Rattle.tri_expr.specs.Tree.{tree};
-ghost use Rattle.tri_expr.specs.Verdict.{fault_list};
+ghost use Rattle.tri_expr.specs.Prelude.{Is, tree, fault_list};
 ghost use Rattle.med_query.specs.Query.{TellsFault};
 ghost use Rattle.med_write.specs.Writing.{outcome_on, outcomes_on, outcomes_of, value_for, new_cells, cell_after, row_made};
 ghost use Rattle.med_write.specs.Writing.{is_null, lacks_value};

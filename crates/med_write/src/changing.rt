@@ -2,8 +2,7 @@
 ghost use Rattle.std.specs.Prelude.{◌≡◌, [], IfOk, IfErr, List, map, option_map};
 ghost use Rattle.med_value.specs.Datum.{Tuple, tuple};
 ghost use Rattle.tri_expr.specs.Tree.{tree};
-ghost use Rattle.fdw_api.specs.Calls.{row_of};
-ghost use Rattle.fdw_api.specs.Scan.{GivenRow};
+ghost use Rattle.fdw_api.specs.Prelude.{row_of, GivenRow};
 ghost use Rattle.med_write.specs.Form.{form_of, given_form, insert_form, update_form, delete_form, change_of};
 ghost use Rattle.med_write.specs.Making.{cells_of, IsWriteFault, AreChanges};
 

@@ -1,10 +1,8 @@
 //! The changes that are made of rows, one by one.
 ghost use Rattle.std.specs.Prelude.{◌≡◌, ◌∷◌, ◌++◌, [], IfOk, IfErr, map, option_map, List};
 ghost use Rattle.med_value.specs.Datum.{tuple};
-ghost use Rattle.tri_expr.specs.Tree.{tree};
-ghost use Rattle.tri_expr.specs.Outcome.{Outcome};
-ghost use Rattle.fdw_api.specs.Kinds.{Inserts, Updates, Deletes};
-ghost use Rattle.fdw_api.specs.Calls.{row_of};
+ghost use Rattle.tri_expr.specs.Prelude.{tree, Outcome};
+ghost use Rattle.fdw_api.specs.Prelude.{Inserts, Updates, Deletes, row_of};
 ghost use Rattle.med_write.specs.Form.{trees_of, change_of};
 ghost use Rattle.med_write.specs.Writing.{outcomes_on, outcomes_of, new_cells, row_made, lacks_value};
 ghost use Rattle.med_write.specs.Making.{IsRow, IsRowFault, IsFaultOf, Makes};

@@ -6,20 +6,14 @@ use Rattle.med_value.specs.declared.cause.Cause.TheVariants as causes
 use Rattle.med_lexer.specs.declared.Token.{Token}
 use Rattle.med_lexer.specs.Lexemes.{Shape, Lexeme, Lexes}
 use Rattle.med_lexer.specs.View.{views}
-use Rattle.med_syntax.specs.Shapes.{shapes, IsLongName}
-use Rattle.med_syntax.specs.View.{shapes_of, LexesOnly, cause_of}
+use Rattle.med_syntax.specs.Prelude.{shapes, IsLongName, shapes_of, LexesOnly, cause_of, ExprTree, IsExpr, height, terminals_at, AreReadable, weight, IsExpression, HasExpr, in_range, TokenCauses, ExprCauses, expr_tree, ReadsAs, cause_of_read}
+use Rattle.med_syntax.specs.ExprWeight.{bounded_of}
 use Rattle.med_syntax.specs.declared.fault.ParseFault.{ParseFault}
 use Rattle.med_syntax.specs.declared.fault.ParseFault.TheVariants as parse_faults
 use Rattle.med_syntax.specs.declared.expr.Expr.{Expr}
 use Rattle.med_syntax.specs.declared.refusal.ReadFault.{ReadFault}
 use Rattle.med_syntax.specs.declared.refusal.ReadFault.TheVariants as faults
 use Rattle.med_syntax.specs.declared.refusal.Refusal.TheVariants.{Syntax, TooHigh}
-use Rattle.med_syntax.specs.ExprTree.{ExprTree, IsExpr, height}
-use Rattle.med_syntax.specs.ExprTerminals.{terminals_at, AreReadable}
-use Rattle.med_syntax.specs.ExprWeight.{bounded_of, weight}
-use Rattle.med_syntax.specs.ExprGrammar.{IsExpression, HasExpr, in_range, TokenCauses, ExprCauses}
-use Rattle.med_syntax.specs.ExprView.{expr_tree}
-use Rattle.med_syntax.specs.ExprAnswers.{ReadsAs, cause_of_read}
 use Rattle.med_syntax.proofs.TokenShapes.{OneList, shapes_are}
 use Rattle.med_syntax.proofs.TokenNumbers.{small_at}
 use Rattle.med_syntax.proofs.ExprComplete.{one_tree}

@@ -1,8 +1,7 @@
 //! Laws of expressions. Each is the contract of a function that does nothing.
 
 ghost use Rattle.std.specs.Prelude.{◌≡◌, ℕ, true, List};
-ghost use Rattle.med_syntax.specs.ExprTree.{ExprTree};
-ghost use Rattle.med_syntax.specs.ExprGrammar.{HasExpr, in_range};
+ghost use Rattle.med_syntax.specs.Prelude.{ExprTree, HasExpr, in_range};
 ghost use Rattle.expr_writer.specs.ExprPrinting.{printed_expr};
 
 use med_lexer::{one_list, printed_again, tokens_can_be_printed};

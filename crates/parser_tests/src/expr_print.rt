@@ -2,9 +2,8 @@
 
 ghost use Rattle.std.specs.Prelude.{◌≡◌, ℕ, List, IfOk, true};
 ghost use Rattle.std.specs.String.{string_bytes};
-ghost use Rattle.med_syntax.specs.ExprGrammar.{HasExpr, in_range};
+ghost use Rattle.med_syntax.specs.Prelude.{HasExpr, in_range, expr_tree};
 ghost use Rattle.expr_writer.specs.ExprPrinting.{printed_expr};
-ghost use Rattle.med_syntax.specs.ExprView.{expr_tree};
 
 use crate::expr_laws::printed_expression;
 use expr_writer::write;

@@ -5,12 +5,7 @@ ghost use Rattle.med_value.specs.declared.cause.Cause.{Cause};
 ghost use Rattle.med_syntax.specs.ExprReading.{all_of};
 ghost use Rattle.med_syntax.specs.ExprWeight as spec;
 ghost use Rattle.med_lexer.specs.Printing.{AreShapes};
-ghost use Rattle.med_syntax.specs.ExprGrammar.{HasExpr, ExprCauses, IsExpression, TokenCauses};
-ghost use Rattle.med_syntax.specs.ExprTerminals.{AreReadable, terminals_at};
-ghost use Rattle.med_syntax.specs.View.{shapes_of};
-ghost use Rattle.med_syntax.specs.ExprView.{expr_tree};
-ghost use Rattle.med_syntax.specs.SymbolView.{terminals_of};
-ghost use Rattle.med_syntax.specs.ExprAnswers.{ReadsAs};
+ghost use Rattle.med_syntax.specs.Prelude.{HasExpr, ExprCauses, IsExpression, TokenCauses, AreReadable, terminals_at, shapes_of, expr_tree, terminals_of, ReadsAs};
 
 use expr_reader::whole;
 use med_lexer::tokens_can_be_printed;

@@ -7,12 +7,9 @@ use Rattle.std.specs.Cmp.{nat_cmp_total}
 use Rattle.std.specs.FinMap as finmap
 use Rattle.std.specs.FinMap.{nat_cmp-IsAntisymmetric}
 use Rattle.std.proofs.lemmas.Bool.Decides.{eqb_tells}
+use Rattle.std.proofs.lemmas.Bool.{and_parts}
 use Rattle.med_value.specs.Datum.{datum}
-use Rattle.fdw_api.specs.Kinds.{Entry, Bytes, Holding, Known, Unknown}
-use Rattle.fdw_api.specs.Scan.{Spec, spec_of}
-use Rattle.fdw_api.specs.State.{BoxTable, Scan, Staging, set_at, table_of}
-use Rattle.fdw_api.specs.Calls.{Allows, CanUnbind, Unbinds, Picks, NoScan}
-use Rattle.fdw_api.specs.Writes.{row_of_change_fits}
+use Rattle.fdw_api.specs.Prelude.{Entry, Bytes, Holding, Known, Unknown, Spec, spec_of, BoxTable, Scan, Staging, set_at, table_of, Allows, CanUnbind, Unbinds, Picks, NoScan, row_of_change_fits}
 use Rattle.blob_store.specs.Names.{is_blob_name}
 use Rattle.blob_store.specs.Shelves.{Shelf, Standing, Known as KnownBlob, Unknown as UnknownBlob, Finds}
 use Rattle.wrapper_parts.specs.declared.changes.StagedWrite.{StagedWrite}
@@ -23,10 +20,6 @@ use Rattle.place_wrapper.specs.declared.scans.LiveScan.{LiveScan}
 use Rattle.place_wrapper.specs.Forms.{Form}
 use Rattle.place_wrapper.specs.Boxes.{rows_to_come, table_at, kinds_held, rows_held, scan_is, scan_rows, write_fits, ScanFits, ScansFit}
 use Rattle.place_wrapper.specs.States.{place_ledger, place_state}
-
-both : (a b : Bool) → (a && b) ≡ true → (a ≡ true) × (b ≡ true)
-both true b e = (refl, e)
-both false b e = absurd cc
 
 none_is : {A : Type 0} (o : Option A) → o ≡ None → IsSome o → ⊥
 none_is None a b = cc
@@ -112,7 +105,7 @@ module _ {T : Type 0} (F : Form T) where
   -- the write under way, where its table stays
   pub write_stays : (old new : List (Option T)) (at : ℕ) (staged : Option Staging) → Others old new at → table_at old at ≡ None → write_fits F old staged ≡ true → write_fits F new staged ≡ true
   write_stays old new at None same free fits = refl
-  write_stays old new at (Some s) same free fits = ap (λ (o : Option T). is_some o && list_all (row_of_change_fits (kinds_held F o)) s.changes) (same s.table (λ e. missing (table_at old s.table) (ap (table_at old) e ∙ free) (both (is_some (table_at old s.table)) _ fits).0)) ∙ fits
+  write_stays old new at (Some s) same free fits = ap (λ (o : Option T). is_some o && list_all (row_of_change_fits (kinds_held F o)) s.changes) (same s.table (λ e. missing (table_at old s.table) (ap (table_at old) e ∙ free) (and_parts (is_some (table_at old s.table)) _ fits).0)) ∙ fits
     where
       missing : (o : Option T) → o ≡ None → is_some o ≡ true → ⊥
       missing None a b = cc

@@ -8,13 +8,13 @@ use Rattle.std.specs.FinMap as finmap
 use Rattle.std.proofs.lemmas.Bool.Decides.{eqb_tells}
 use Rattle.std.proofs.lemmas.List.Sorted.{IsPermutation-filter_both}
 use Rattle.std.proofs.lemmas.List.Elements.{All-filter, filter_passes, All-weaker}
+use Rattle.std.proofs.lemmas.Bool.{and_parts, not-true}
+use Rattle.std.proofs.lemmas.Option.{same_Some}
 use Rattle.med_value.specs.Datum.{Tuple, datum}
 use Rattle.med_value.specs.declared.value.ColType.{ColType}
 use Rattle.med_value.specs.declared.value.Value.{Value}
-use Rattle.fdw_api.specs.Scan.{Spec, spec_of, GivenRow, TableRow, IsComing, meets_all, meets_exact, given_row, shown_cells, shown_fits, row_fits}
+use Rattle.fdw_api.specs.Prelude.{Spec, spec_of, GivenRow, TableRow, IsComing, meets_all, meets_exact, given_row, shown_cells, shown_fits, row_fits, BoxTable, Scan, scan_of, LeavesOthers, new_scan, Begins, GivesRow, GivesNone, Iterates, Breaks, Rescans, Ends, RefusesBegin, row_of, bumped}
 use Rattle.fdw_api.proofs.Unpromised.{any_order, all_first}
-use Rattle.fdw_api.specs.State.{BoxTable, Scan, scan_of}
-use Rattle.fdw_api.specs.Calls.{LeavesOthers, new_scan, Begins, GivesRow, GivesNone, Iterates, Breaks, Rescans, Ends, RefusesBegin, row_of, bumped}
 use Rattle.fdw_api.specs.declared.interface.Fault.{Fault}
 use Rattle.fdw_api.specs.declared.interface.Fault.TheVariants.{NoMemory}
 use Rattle.fdw_api.specs.declared.interface.SourceRow.{SourceRow}
@@ -23,20 +23,12 @@ use Rattle.wrapper_parts.specs.declared.changes.StagedWrite.{StagedWrite}
 use Rattle.place_wrapper.specs.Mapped.{mapped, live_at, Updates}
 use Rattle.place_wrapper.proofs.Maps.{mapped_get, mapped_insert, mapped_put_back, mapped_remove, apart}
 use Rattle.wrapper_parts.specs.declared.index.PlaceIndex.{PlaceIndex}
-use Rattle.wrapper_parts.specs.Scans.{Serves, Stands}
+use Rattle.wrapper_parts.specs.Scans.{Serves}
 use Rattle.place_wrapper.specs.declared.scans.LiveScan.{LiveScan}
 use Rattle.place_wrapper.specs.Forms.{Form}
-use Rattle.place_wrapper.specs.Boxes.{rows_to_come, NextIs, table_at, kinds_held, rows_held, scan_is, scan_rows, ScanFits, ScansFit, Pulls, pulled_after, Restarts, newer}
+use Rattle.place_wrapper.specs.Boxes.{rows_to_come, NextIs, table_at, kinds_held, rows_held, scan_is, scan_rows, Spans, ScanFits, ScansFit, Pulls, pulled_after, Restarted, Restarts, newer}
 use Rattle.place_wrapper.specs.States.{place_state}
-use Rattle.place_wrapper.proofs.Options.{some_inj, none_is, mapped_there}
-
-both : (a b : Bool) → (a && b) ≡ true → (a ≡ true) × (b ≡ true)
-both true b e = (refl, e)
-both false b e = absurd cc
-
-unless_true : (b : Bool) → not b ≡ true → b ≡ false
-unless_true true e = absurd cc
-unless_true false e = refl
+use Rattle.place_wrapper.proofs.Options.{none_is, mapped_there}
 
 abbrev pub ShowsTyped : Type 0
 ShowsTyped = (kinds : List ColType) (spec : Spec) (cells : Tuple) → row_fits kinds cells ≡ true → shown_fits kinds spec (shown_cells spec cells) ≡ true
@@ -44,7 +36,7 @@ ShowsTyped = (kinds : List ColType) (spec : Spec) (cells : Tuple) → row_fits k
 shown_typed : (kinds : List ColType) (spec : Spec) (test : TableRow → Bool) (rows : List TableRow) → ShowsTyped → list_all (λ r. row_fits kinds r.cells) rows ≡ true → list_all (λ r. shown_fits kinds spec r.cells) (map (given_row spec) (filter test rows)) ≡ true
 shown_typed kinds spec test [] shows e = refl
 shown_typed kinds spec test (r ∷ rows) shows e =
-    let w = both (row_fits kinds r.cells) _ e in
+    let w = and_parts (row_fits kinds r.cells) _ e in
     at (test r) (shows kinds spec r.cells w.0) (shown_typed kinds spec test rows shows w.1)
   where
     at : (b : Bool) → shown_fits kinds spec (shown_cells spec r.cells) ≡ true → list_all (λ r. shown_fits kinds spec r.cells) (map (given_row spec) (filter test rows)) ≡ true
@@ -55,7 +47,7 @@ shown_typed kinds spec test (r ∷ rows) shows e =
 rest_fit : (kinds : List ColType) (at : ℕ) (rows : List TableRow) → list_all (λ (r : TableRow). row_fits kinds r.cells) rows ≡ true → list_all (λ (r : TableRow). row_fits kinds r.cells) (drop at rows) ≡ true
 rest_fit kinds zero rows e = e
 rest_fit kinds (suc at) [] e = refl
-rest_fit kinds (suc at) (r ∷ rows) e = rest_fit kinds at rows (both (row_fits kinds r.cells) _ e).1
+rest_fit kinds (suc at) (r ∷ rows) e = rest_fit kinds at rows (and_parts (row_fits kinds r.cells) _ e).1
 
 -- no ticket from this number on is live
 abbrev pub Fresh : List (ℕ × LiveScan) → ℕ → Type 0
@@ -87,7 +79,7 @@ module _ {T : Type 0} (F : Form T) where
     taken = [];
     left_out = [];
     parts = IsPermutation-filter_both (λ (r : TableRow). true) (λ r. false) (λ r. refl) [];
-    failing = All-weaker _ _ (λ r e. unless_true _ e) [] (filter_passes (λ (r : TableRow). not (meets_all spec.offered params r.cells)) []);
+    failing = All-weaker _ _ (λ r e. not-true _ e) [] (filter_passes (λ (r : TableRow). not (meets_all spec.offered params r.cells)) []);
     exact = filter_passes (λ (r : TableRow). meets_exact spec.offered spec.answers params r.cells) [];
     sorted = any_order spec.order keyless [];
     is = ap (map (given_row spec)) (sym (all_first spec.limit unlimited []));
@@ -97,7 +89,7 @@ module _ {T : Type 0} (F : Form T) where
     left_out = filter (λ r. not (F.takes t spec params r)) (F.rows t);
     parts = IsPermutation-filter_both (F.takes t spec params) (λ r. not (F.takes t spec params r)) (λ r. refl) (F.rows t);
     failing = λ k d within. All-filter (λ r. not (F.takes t spec params r)) (λ r. F.takes t spec params r ≡ false → meets_all spec.offered params r.cells ≡ false)
-        (F.rows t) (F.sound t spec params) k d within (unless_true _ (filter_passes (λ r. not (F.takes t spec params r)) (F.rows t) k d within));
+        (F.rows t) (F.sound t spec params) k d within (not-true _ (filter_passes (λ r. not (F.takes t spec params r)) (F.rows t) k d within));
     exact = All-weaker _ _ (λ r e. F.exact t spec params r e) _ (filter_passes (F.takes t spec params) (F.rows t));
     sorted = any_order spec.order keyless (filter (F.takes t spec params) (F.rows t));
     is = ap (map (given_row spec)) (sym (all_first spec.limit unlimited (filter (F.takes t spec params) (F.rows t))));
@@ -111,7 +103,7 @@ module _ {T : Type 0} (F : Form T) where
   keeps_fitting tables m n number w old is u q s e = split (eqb_tells q number)
     where
       split : ((eqb q number ≡ true) × (q ≡ number)) ⊎ ((eqb q number ≡ false) × (q ≢ number)) → ScanFits F (table_at tables s.table) s
-      split (inl p) = subst (λ (z : LiveScan). ScanFits F (table_at tables z.table) z) (some_inj w s (sym u.there ∙ ap (live_at n) (sym p.1) ∙ e)) is
+      split (inl p) = subst (λ (z : LiveScan). ScanFits F (table_at tables z.table) z) (same_Some w s (sym u.there ∙ ap (live_at n) (sym p.1) ∙ e)) is
       split (inr p) = old q s (sym (u.others q (apart number q p.1)) ∙ e)
 
   pub ends_fitting : (tables : List (Option T)) (m n : List (ℕ × LiveScan)) (number : ℕ) → ScansFit F tables m → Updates m n number None → ScansFit F tables n
@@ -125,12 +117,11 @@ module _ {T : Type 0} (F : Form T) where
       split (inl p) = absurd (neither (live_at n number) u.there (ap (live_at n) (sym p.1) ∙ e))
       split (inr p) = old q s (sym (u.others q (apart number q p.1)) ∙ e)
 
-  -- a scan that is begun again stands at the beginning, with its own index or a new one
-  pub starts_fitting : (tables : List (Option T)) (s : LiveScan) (params : Tuple) (index : Option PlaceIndex) → ScanFits F (table_at tables s.table) s
-      → Serves (spec_of s.spec) (rows_held F (table_at tables s.table)) index
-      → IsSome (table_at tables s.table) × Serves (spec_of s.spec) (rows_held F (table_at tables s.table)) (newer index s.index)
-      × Stands (spec_of s.spec) params (rows_held F (table_at tables s.table)) 0 (newer index s.index)
-  starts_fitting tables s params index old new = (old.0, serves index new, λ x w i e k up. absurd (omega arith))
+  -- a scan that is begun again stands at the first of its places, with its own index or a new one
+  starts_fitting : (tables : List (Option T)) (s t : LiveScan) (params : Vec Value Global) → ScanFits F (table_at tables s.table) s
+      → Restarted F (table_at tables s.table) params s t → ScanFits F (table_at tables t.table) t
+  starts_fitting tables s t params old r =
+      subst (λ (z : LiveScan). ScanFits F (table_at tables z.table) z) (sym r.is) (old.0, serves r.index r.serves, r.stands, r.spans.ends)
     where
       serves : (i : Option PlaceIndex) → Serves (spec_of s.spec) (rows_held F (table_at tables s.table)) i → Serves (spec_of s.spec) (rows_held F (table_at tables s.table)) (newer i s.index)
       serves None new = old.1
@@ -146,12 +137,13 @@ module _ {T : Type 0} (F : Form T) where
 
   pub kinds_bound : (o : Option T) (b : BoxTable) → option_map F.bound o ≡ Some b → kinds_held F o ≡ b.kinds
   kinds_bound None b e = absurd cc
-  kinds_bound (Some x) b e = ap (λ (z : BoxTable). z.kinds) (some_inj (F.bound x) b e)
+  kinds_bound (Some x) b e = ap (λ (z : BoxTable). z.kinds) (same_Some (F.bound x) b e)
 
-  pub place_begins : (shelf : Shelf) (tables : List (Option T)) (m n : List (ℕ × LiveScan)) (staged : Option StagedWrite) (t next pulled : ℕ) (spec : Spec) (params : Tuple) (s : LiveScan) (b : BoxTable) → option_map F.bound (table_at tables t) ≡ Some b → live_at m next ≡ None → next < 2 ^ 64 - 1 → Updates m n next (Some s) → s.table ≡ t → spec_of s.spec ≡ spec → map datum s.params.items ≡ params → s.at ≡ 0 → s.broken ≡ false
+  pub place_begins : (shelf : Shelf) (tables : List (Option T)) (m n : List (ℕ × LiveScan)) (staged : Option StagedWrite) (t next pulled : ℕ) (spec : Spec) (params : Tuple) (s : LiveScan) (b : BoxTable) → option_map F.bound (table_at tables t) ≡ Some b → live_at m next ≡ None → next < 2 ^ 64 - 1 → Updates m n next (Some s) → s.table ≡ t → spec_of s.spec ≡ spec → map datum s.params.items ≡ params
+      → Spans F (table_at tables s.table) (spec_of s.spec) (map datum s.params.items) s.at s.end → s.broken ≡ false
       → Begins (place_state F shelf tables m staged next pulled) t spec params next (place_state F shelf tables n staged (next + 1) pulled)
-  place_begins shelf tables m n staged t next pulled spec params s b is_bound fresh room u et es ep ea eb =
-      let coming : scan_rows F tables (live_at n next) ≡ rows_to_come F (table_at tables t) spec params 0 = ap (scan_rows F tables) u.there ∙ rw (es, ep, ea, et) refl in
+  place_begins shelf tables m n staged t next pulled spec params s b is_bound fresh room u et es ep spans eb =
+      let coming : scan_rows F tables (live_at n next) ≡ rows_to_come F (table_at tables t) spec params 0 = ap (scan_rows F tables) u.there ∙ sym spans.same ∙ rw (es, ep, et) refl in
       record {
         nature = refl;
         is_next = refl;
@@ -175,7 +167,7 @@ module _ {T : Type 0} (F : Form T) where
   row_typed : (o : Option T) (spec : Spec) (params : Tuple) (at : ℕ) (row : GivenRow) (rest : List GivenRow) → ShowsTyped → rows_to_come F o spec params at ≡ row ∷ rest → shown_fits (kinds_held F o) spec row.cells ≡ true
   row_typed None spec params at row rest shows e = absurd cc
   row_typed (Some t) spec params at row rest shows e =
-      (both (shown_fits (F.bound t).kinds spec row.cells) _ (subst (λ (l : List GivenRow). list_all (λ r. shown_fits (F.bound t).kinds spec r.cells) l ≡ true) e
+      (and_parts (shown_fits (F.bound t).kinds spec row.cells) _ (subst (λ (l : List GivenRow). list_all (λ r. shown_fits (F.bound t).kinds spec r.cells) l ≡ true) e
       (shown_typed (F.bound t).kinds spec (F.takes t spec params) (drop at (F.rows t)) shows (rest_fit (F.bound t).kinds at (F.rows t) (F.typed t))))).0
 
   pub place_gives : (shelf : Shelf) (tables : List (Option T)) (m n : List (ℕ × LiveScan)) (staged : Option StagedWrite) (next pulled number : ℕ) (s : LiveScan) (row : SourceRow) → ShowsTyped → live_at m number ≡ Some s
@@ -238,9 +230,11 @@ module _ {T : Type 0} (F : Form T) where
       (subst (λ (f : Fault). Breaks (place_state F shelf tables m staged next pulled) number f (place_state F shelf tables n staged next pulled)) (sym wanting)
       (place_breaks shelf tables m n staged next pulled number s is (subst (λ (z : LiveScan). Updates m n number (Some z)) p u)))
 
-  pub place_rescans : (shelf : Shelf) (tables : List (Option T)) (m n : List (ℕ × LiveScan)) (staged : Option StagedWrite) (next pulled : ℕ) (number : ℕ) (params : Tuple) (s t : LiveScan) → live_at m number ≡ Some s → s.broken ≡ false → Updates m n number (Some t) → t.table ≡ s.table → spec_of t.spec ≡ spec_of s.spec → map datum t.params.items ≡ params → t.at ≡ 0 → t.broken ≡ s.broken → Rescans (place_state F shelf tables m staged next pulled) number params (place_state F shelf tables n staged next pulled)
-  place_rescans shelf tables m n staged next pulled number params s t is whole u et es ep ea eb =
-      let coming : scan_rows F tables (live_at n number) ≡ rows_to_come F (table_at tables s.table) (spec_of s.spec) params 0 = ap (scan_rows F tables) u.there ∙ rw (es, ep, ea, et) refl in
+  pub place_rescans : (shelf : Shelf) (tables : List (Option T)) (m n : List (ℕ × LiveScan)) (staged : Option StagedWrite) (next pulled : ℕ) (number : ℕ) (params : Tuple) (s t : LiveScan) → live_at m number ≡ Some s → s.broken ≡ false → Updates m n number (Some t) → t.table ≡ s.table → spec_of t.spec ≡ spec_of s.spec → map datum t.params.items ≡ params
+      → Spans F (table_at tables t.table) (spec_of t.spec) (map datum t.params.items) t.at t.end → t.broken ≡ s.broken
+      → Rescans (place_state F shelf tables m staged next pulled) number params (place_state F shelf tables n staged next pulled)
+  place_rescans shelf tables m n staged next pulled number params s t is whole u et es ep spans eb =
+      let coming : scan_rows F tables (live_at n number) ≡ rows_to_come F (table_at tables s.table) (spec_of s.spec) params 0 = ap (scan_rows F tables) u.there ∙ sym spans.same ∙ rw (es, ep, et) refl in
       record {
         nature = refl;
         scan = scan_is F tables s;
@@ -267,17 +261,17 @@ module _ {T : Type 0} (F : Form T) where
   -- a scan that is open is whole
   pub is_whole : (shelf : Shelf) (tables : List (Option T)) (m : List (ℕ × LiveScan)) (staged : Option StagedWrite) (next pulled : ℕ) (n : ℕ) (s : LiveScan) (scan : Scan) → live_at m n ≡ Some s → scan_of (place_state F shelf tables m staged next pulled) n ≡ Some scan → scan.broken ≡ false → s.broken ≡ false
   is_whole shelf tables m staged next pulled n s scan is at whole =
-      ap (λ (z : Scan). z.broken) (some_inj (scan_is F tables s) scan (sym (mapped_get (scan_is F tables) m n ∙ ap (option_map (scan_is F tables)) is) ∙ at)) ∙ whole
+      ap (λ (z : Scan). z.broken) (same_Some (scan_is F tables s) scan (sym (mapped_get (scan_is F tables) m n ∙ ap (option_map (scan_is F tables)) is) ∙ at)) ∙ whole
 
   -- a scan that gave its next row fits still
   pub pulls_fit : {E : Type 0} (tables : List (Option T)) (s t : LiveScan) (r : Result (Option SourceRow) E) → ScanFits F (table_at tables s.table) s → Pulls F (table_at tables s.table) s r t → ScanFits F (table_at tables t.table) t
-  pulls_fit tables s t (Ok (Some row)) f p = subst (λ (z : LiveScan). ScanFits F (table_at tables z.table) z) (sym p.2) (f.0, f.1, p.1)
+  pulls_fit tables s t (Ok (Some row)) f p = subst (λ (z : LiveScan). ScanFits F (table_at tables z.table) z) (sym p.2) (f.0, f.1, p.1, f.3)
   pulls_fit tables s t (Ok None) f p = subst (λ (z : LiveScan). ScanFits F (table_at tables z.table) z) (sym p.1) f
   pulls_fit tables s t (Err e) f p = subst (λ (z : LiveScan). ScanFits F (table_at tables z.table) z) (sym p) f
 
   -- and so does one that is begun again
   pub restarts_fit : {E : Type 0} (tables : List (Option T)) (params : Vec Value Global) (s t : LiveScan) (r : Result Unit E) → ScanFits F (table_at tables s.table) s → Restarts F (table_at tables s.table) params s r t → ScanFits F (table_at tables t.table) t
-  restarts_fit tables params s t (Ok u) f p = subst (λ (z : LiveScan). ScanFits F (table_at tables z.table) z) (sym p.2) (starts_fitting tables s (map datum params.items) p.0 f p.1)
+  restarts_fit tables params s t (Ok u) f p = starts_fitting tables s t params f p
   restarts_fit tables params s t (Err e) f p = subst (λ (z : LiveScan). ScanFits F (table_at tables z.table) z) (sym p) f
 
   -- scans whose entries are the same

@@ -1,11 +1,8 @@
 -- What a bind that reads a table and the end of a write do to a wrapper over tables by place.
 use Rattle.std.proofs.Common.{◌≡◌, ◌≢◌, ℕ, Bool, true, if◌then◌else◌, List, [], Option, Some, None, map, option_map, Contains, refl, ap, sym, ◌∙◌, subst, nat_eq}
 use Rattle.std.specs.List.{IsDistinct}
-use Rattle.fdw_api.specs.Kinds.{Column, OptionForm, Entry, Bytes, Held, held, Holding, Known, Unknown}
-use Rattle.fdw_api.specs.Scan.{TableRow}
-use Rattle.fdw_api.specs.State.{BoxTable, Staging}
-use Rattle.fdw_api.specs.Calls.{Binds, NoScan, Picks}
-use Rattle.fdw_api.specs.Writes.{CanClose, Closes, RefusesClose, HoldsImage}
+use Rattle.std.proofs.lemmas.Option.{same_Some}
+use Rattle.fdw_api.specs.Prelude.{Column, OptionForm, Entry, Bytes, Held, held, Holding, Known, Unknown, TableRow, BoxTable, Staging, Binds, NoScan, Picks, CanClose, Closes, RefusesClose, HoldsImage}
 use Rattle.fdw_api.specs.declared.interface.Fault.{Fault}
 use Rattle.fdw_api.specs.declared.interface.Fault.TheVariants.{NoMemory, Source, Refused}
 use Rattle.blob_store.specs.Names.{is_blob_name}
@@ -17,7 +14,6 @@ use Rattle.place_wrapper.specs.declared.scans.LiveScan.{LiveScan}
 use Rattle.place_wrapper.specs.Forms.{Form, ReadsAs, Rewrites, RefusesChanges}
 use Rattle.place_wrapper.specs.Boxes.{table_at, rows_held, ScansFit}
 use Rattle.place_wrapper.specs.States.{place_ledger, place_state}
-use Rattle.place_wrapper.proofs.Options.{some_inj}
 use Rattle.place_wrapper.proofs.Rows.{numbered_once}
 use Rattle.place_wrapper.proofs.Binding.{Others, Kept, Apart, unscanned_free, unscanned_by, ledger_set, ledger_kept, coming_same, picks_under, known_is}
 
@@ -66,7 +62,7 @@ module _ {T : Type 0} (F : Form T) where
   pub read_kept : (shelf after : Shelf) (remote : List ℕ) (columns : List Column) (settings : List OptionForm) (content : List ℕ) (x y : T) (e : Option Entry) → after ≡ shelf → is_blob_name remote ≡ true → Finds (shelf.under remote) (Some content)
       → ReadsAs F remote columns settings content x → Some x ≡ Some y → held_under after (F.bound y).remote ≡ Known e → F.fits y e
   read_kept shelf after remote columns settings content x y e same named finds r is known =
-      let one : x ≡ y = some_inj x y is in
+      let one : x ≡ y = same_Some x y is in
       let there : held_under shelf remote ≡ Known e = ap (held_under shelf) (sym r.remote_is) ∙ ap (λ (z : T). held_under shelf (F.bound z).remote) one ∙ ap (λ (z : Shelf). held_under z (F.bound y).remote) (sym same) ∙ known in
       subst (λ (z : Option Entry). F.fits y z) (known_is (held_under shelf remote) (Some (Bytes content)) e (picks_under shelf remote (Some content) named finds) there)
       (subst (λ (z : T). F.fits z (Some (Bytes content))) one r.fits)
@@ -79,7 +75,7 @@ module _ {T : Type 0} (F : Form T) where
   -- the write under way
   pub staged_scans : (shelf : Shelf) (tables : List (Option T)) (m : List (ℕ × LiveScan)) (w : StagedWrite) (staged : Option StagedWrite) (keep : Bool) (next pulled : ℕ) → staged ≡ Some w → keep ≡ true → CanClose (place_state F shelf tables m staged next pulled) keep → NoScan (place_state F shelf tables m staged next pulled) w.table
   staged_scans shelf tables m w staged keep next pulled es k can =
-      let same : can.staging ≡ write_is w = some_inj can.staging (write_is w) (sym can.is_staged ∙ ap (option_map write_is) es) in
+      let same : can.staging ≡ write_is w = same_Some can.staging (write_is w) (sym can.is_staged ∙ ap (option_map write_is) es) in
       subst (λ (z : Staging). NoScan (place_state F shelf tables m staged next pulled) z.table) same (can.no_scan k)
 
   holds : (before after : Standing) (image : List ℕ) (rows : List Held) (b : BoxTable) → after ≡ after_writing before image
@@ -147,7 +143,7 @@ module _ {T : Type 0} (F : Form T) where
     staging = write_is w;
     is_staged = refl;
     ledger = refl;
-    cause = (why.0, λ honest b at. at_bound b (some_inj (F.bound x) b (sym (ap (option_map F.bound) was) ∙ at)));
+    cause = (why.0, λ honest b at. at_bound b (same_Some (F.bound x) b (sym (ap (option_map F.bound) was) ∙ at)));
     leaves = λ honest. record { coming = λ q l o. refl; rows = λ t o. refl; holdings = λ r o. refl };
   }
     where
@@ -166,7 +162,7 @@ module _ {T : Type 0} (F : Form T) where
   pub written_kept : (shelf after : Shelf) (x y z : T) (image : List ℕ) (changes : List Rattle.fdw_api.specs.Kinds.Change) (e : Option Entry) → is_blob_name (F.bound x).remote ≡ true → Replaces shelf (F.bound x).remote image after
       → Rewrites F x changes y image → Some y ≡ Some z → held_under after (F.bound z).remote ≡ Known e → F.fits z e
   written_kept shelf after x y z image changes e named replaced made is known =
-      let one : y ≡ z = some_inj y z is in
+      let one : y ≡ z = same_Some y z is in
       let here : held_under after (F.bound x).remote ≡ Known e = ap (λ (b : BoxTable). held_under after b.remote) (sym made.bound) ∙ ap (λ (v : T). held_under after (F.bound v).remote) one ∙ known in
       let stands : holding_of (after.under (F.bound x).remote) ≡ Known e = rw named at here in
       subst (λ (d : Option Entry). F.fits z d) (written_known (shelf.under (F.bound x).remote) (after.under (F.bound x).remote) image e replaced.there stands)

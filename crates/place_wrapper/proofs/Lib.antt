@@ -2,6 +2,7 @@ pub mod Maps
 pub mod Entries
 pub mod Options
 pub mod Rows
+pub mod Rises
 pub mod Calls
 pub mod Binding
 pub mod Closing

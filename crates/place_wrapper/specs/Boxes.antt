@@ -6,10 +6,7 @@ use Rattle.std.specs.Option.{option_flatten}
 use Rattle.med_value.specs.Datum.{Tuple, datum}
 use Rattle.med_value.specs.declared.value.ColType.{ColType}
 use Rattle.med_value.specs.declared.value.Value.{Value}
-use Rattle.fdw_api.specs.Scan.{Spec, spec_of, TableRow, GivenRow, given_row}
-use Rattle.fdw_api.specs.State.{Scan, Staging}
-use Rattle.fdw_api.specs.Calls.{row_of, bumped}
-use Rattle.fdw_api.specs.Writes.{row_of_change_fits}
+use Rattle.fdw_api.specs.Prelude.{Spec, spec_of, TableRow, GivenRow, given_row, Scan, Staging, row_of, bumped, row_of_change_fits}
 use Rattle.fdw_api.specs.declared.interface.SourceRow.{SourceRow}
 use Rattle.wrapper_parts.specs.declared.index.PlaceIndex.{PlaceIndex}
 use Rattle.wrapper_parts.specs.Scans.{Serves, Stands}
@@ -54,6 +51,15 @@ abbrev pub newer : Option PlaceIndex → Option PlaceIndex → Option PlaceIndex
 newer (Some x) old = Some x
 newer None old = old
 
+-- from a place on a scan takes no row, and it is not past the rows
+abbrev pub EndsAt : {T : Type 0} → Form T → Option T → Spec → Tuple → ℕ → Type 0
+EndsAt F o spec params end = (length (rows_to_come F o spec params end) ≡ 0) × (end ≤ length (rows_held F o))
+
+-- a scan has to go only over the places from a first to an end: it takes no row before the first, and none from the end on
+pub record Spans {T : Type 0} (F : Form T) (o : Option T) (spec : Spec) (params : Tuple) (first end : ℕ) : Type 0 where
+  pub same : rows_to_come F o spec params 0 ≡ rows_to_come F o spec params first
+  pub ends : EndsAt F o spec params end
+
 -- the next row of a scan is given, or none, and the scan stands behind it; where memory is wanting the scan is good for its end alone
 abbrev pub Pulls : {T E : Type 0} → Form T → Option T → LiveScan → Result (Option SourceRow) E → LiveScan → Type 0
 Pulls F o s (Ok (Some row)) t =
@@ -69,18 +75,28 @@ pulled_after (Ok (Some row)) pulled = bumped pulled
 pulled_after (Ok None) pulled = pulled
 pulled_after (Err e) pulled = pulled
 
--- a scan is begun again by these parameters, with an index of its own table; where memory is wanting it is good for its end alone
+-- a scan is begun again by these parameters: with an index of its own table, if one is made, and at the first of the places over which it
+-- has to go, from which its index goes on
+pub record Restarted {T : Type 0} (F : Form T) (o : Option T) (params : Vec Value Global) (s t : LiveScan) : Type 0 where
+  pub index : Option PlaceIndex
+  pub serves : Serves (spec_of s.spec) (rows_held F o) index
+  pub first : ℕ
+  pub end : ℕ
+  pub stands : Stands (spec_of s.spec) (map datum params.items) (rows_held F o) first (newer index s.index)
+  pub spans : Spans F o (spec_of s.spec) (map datum params.items) first end
+  pub is : t ≡ record s { params = params; at = first; end = end; index = newer index s.index }
+
+-- a scan is begun again; where memory is wanting it is good for its end alone
 abbrev pub Restarts : {T E : Type 0} → Form T → Option T → Vec Value Global → LiveScan → Result Unit E → LiveScan → Type 0
-Restarts F o params s (Ok u) t =
-    (index : Option PlaceIndex) × Serves (spec_of s.spec) (rows_held F o) index
-    × (t ≡ record s { params = params; at = 0; index = newer index s.index })
+Restarts F o params s (Ok u) t = Restarted F o params s t
 Restarts F o params s (Err e) t = t ≡ record s { broken = true }
 
--- a live scan is of a bound table, its index is of that table's rows, and it stands where its index goes on
+-- a live scan is of a bound table, its index is of that table's rows, it stands where its index goes on, and from its end on it takes no row
 abbrev pub ScanFits : {T : Type 0} → Form T → Option T → LiveScan → Type 0
 ScanFits F o s =
     IsSome o × Serves (spec_of s.spec) (rows_held F o) s.index
     × Stands (spec_of s.spec) (map datum s.params.items) (rows_held F o) s.at s.index
+    × EndsAt F o (spec_of s.spec) (map datum s.params.items) s.end
 
 abbrev pub ScansFit : {T : Type 0} → Form T → List (Option T) → List (ℕ × LiveScan) → Type 0
 ScansFit F tables scans = (q : ℕ) (s : LiveScan) → live_at scans q ≡ Some s → ScanFits F (table_at tables s.table) s

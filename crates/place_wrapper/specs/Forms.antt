@@ -2,15 +2,10 @@
 -- here it is a blob that is read whole when the table is bound, and the id of a row is its place.
 use Rattle.std.specs.Prelude.{◌≡◌, ◌+◌, ℕ, Bool, true, false, List, [], ◌∷◌, map, Option, Some, None, slice_get, Contains, All}
 use Rattle.std.specs.List.{list_all}
-use Rattle.med_value.specs.Causes.{phase_of}
+use Rattle.med_value.specs.Prelude.{phase_of, Datum, Tuple, tuple, cell}
 use Rattle.med_value.specs.declared.cause.Cause.TheVariants.{TableNotFound}
-use Rattle.med_value.specs.Datum.{Datum, Tuple, tuple, cell}
 use Rattle.med_value.specs.declared.value.Row.{Row}
-use Rattle.fdw_api.specs.Scan.{Spec, RestrictionForm, TableRow, meets_exact, meets_all, shown_cells, row_fits}
-use Rattle.fdw_api.specs.Kinds.{Kind, Column, OptionForm, Entry, Bytes, Change, held, kinds_of, is_late, is_of_run}
-use Rattle.fdw_api.specs.State.{BoxTable}
-use Rattle.fdw_api.specs.Calls.{IsLeast}
-use Rattle.fdw_api.specs.Writes.{rows_after}
+use Rattle.fdw_api.specs.Prelude.{Spec, RestrictionForm, TableRow, meets_exact, meets_all, shown_cells, row_fits, Kind, Column, OptionForm, Entry, Bytes, Change, held, kinds_of, is_late, is_of_run, BoxTable, IsLeast, rows_after}
 use Rattle.fdw_api.specs.declared.scan.Agree.{Agree}
 use Rattle.fdw_api.specs.declared.interface.Fault.{Fault}
 use Rattle.fdw_api.specs.declared.interface.Fault.TheVariants.{NoMemory, Source, Refused}

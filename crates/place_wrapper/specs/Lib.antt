@@ -1,3 +1,4 @@
+pub mod Halves
 pub mod Holdings
 pub mod Mapped
 pub mod Forms

@@ -1,7 +1,6 @@
 -- What a wrapper over tables by place shows.
 use Rattle.std.specs.Prelude.{◌≡◌, ℕ, true, false, List, Option, option_map}
-use Rattle.fdw_api.specs.Kinds.{Kind}
-use Rattle.fdw_api.specs.State.{Ledger, BoxState, IsIdle, is_honest}
+use Rattle.fdw_api.specs.Prelude.{Kind, Ledger, BoxState, IsIdle, is_honest}
 use Rattle.blob_store.specs.Shelves.{Shelf}
 use Rattle.place_wrapper.specs.Holdings.{held_under}
 use Rattle.place_wrapper.specs.Mapped.{mapped, live_at}

@@ -2,12 +2,11 @@
 ghost use Rattle.std.specs.Prelude.{◌≡◌, ◌<◌, ℕ, List, map, length, option_map, IfOk, IfErr, Some, [], true};
 ghost use Rattle.std.specs.List.{list_all};
 ghost use Rattle.med_value.specs.Datum.{datum};
-ghost use Rattle.fdw_api.specs.Scan.{restriction_form, spec_of};
-ghost use Rattle.fdw_api.specs.Kinds.{column_of, option_form};
-ghost use Rattle.fdw_api.specs.Writes.{row_of_change_fits};
+ghost use Rattle.fdw_api.specs.Prelude.{restriction_form, spec_of, column_of, option_form, row_of_change_fits};
 ghost use Rattle.blob_store.specs.Names.{is_blob_name};
 ghost use Rattle.wrapper_parts.specs.Staged.{change_is};
-ghost use Rattle.wrapper_parts.specs.Scans.{sought, form_of};
+ghost use Rattle.wrapper_parts.specs.Scans.{sought, form_of, column_cells};
+ghost use Rattle.wrapper_parts.specs.Rising.{AreRising};
 
 use fdw_api::interface::{Fault, TableOption};
 use fdw_api::scan::{Agree, Restriction, ScanSpec};
@@ -52,6 +51,13 @@ pub trait PlacedTable: Drop {
     /// How many rows there are.
     fn count(&self) -> usize
         ensures { result ≡ length (form.rows self.now) };
+
+    /// Whether the first column is known to rise. It need not be known.
+    fn rises(&self) -> bool
+        ensures { result ≡ true → AreRising (column_cells 0 (form.rows self.now)) }
+    {
+        false
+    }
 
     /// What is done about a restriction.
     fn answer(&self, restriction: &Restriction) -> Agree

@@ -4,6 +4,7 @@
 pub mod faults;
 pub mod format;
 pub mod scans;
+pub mod spans;
 pub mod tables;
 pub mod wrapper;
 

@@ -13,6 +13,7 @@ ghost use Rattle.place_wrapper.specs.Mapped.{live_at, Updates, numbers, Rise};
 ghost use Rattle.place_wrapper.specs.Boxes.{NextIs, Moves, ScanFits, Pulls, Restarts, table_at, rows_held, newer};
 
 use crate::format::PlacedTable;
+use crate::spans::span_of;
 use crate::tables::table_at;
 use fdw_api::interface::{Fault, RowId, SourceRow};
 use fdw_api::scan::ScanSpec;
@@ -20,14 +21,15 @@ use med_value::{NoMemory, Row, Value};
 use std::alloc::Global;
 use wrapper_parts::{PlaceIndex, Sought, sought_in, value_at};
 
-/// A live scan: what it was asked for, and the place from which it goes on. Once it is begun again it has an index of the column in which
-/// it looks for a parameter, if there is one. A broken one is good for `end` alone.
+/// A live scan: what it was asked for, and the place from which it goes on to its end. Once it is begun again it has an index of the column
+/// in which it looks for a parameter, if there is one. A broken one is good for `end` alone.
 #[derive(Drop)]
 pub struct LiveScan {
     pub table: usize,
     pub spec: ScanSpec,
     pub params: Vec<Value>,
     pub at: usize,
+    pub end: usize,
     pub index: Option<PlaceIndex>,
     pub broken: bool,
 }
@@ -126,7 +128,14 @@ fn row_at<T: PlacedTable>(
     }
 }
 
-/// The next row of a scan of a table, from its place on.
+// The place at which a scan ends.
+fn end_of(scan: &LiveScan) -> usize
+    ensures { result ≡ scan.now.end }
+{
+    scan.end
+}
+
+/// The next row of a scan of a table, from its place to its end.
 fn next_row<T: PlacedTable>(
     alloc: Global,
     table: &T,
@@ -140,8 +149,9 @@ fn next_row<T: PlacedTable>(
     ensures err { IfErr result (λ fault. fault ≡ OutOfMemory) }
 {
     let found = sought_in(&scan.spec.offered);
+    let end = end_of(scan);
     let mut at = place_from(table, scan, found, scan.at);
-    while at < table.count() {
+    while at < end {
         if let Some(cells) = row_at(alloc, table, scan, found, at)? {
             return Ok(Some(SourceRow {
                 id: RowId { number: at as u64 },
@@ -262,7 +272,7 @@ fn add_index<T: PlacedTable>(
     Ok(())
 }
 
-/// Begins a scan again by these parameters. It makes an index where it looks for a parameter and has none yet. Where memory is wanting the
+/// Begins a scan again by these parameters, at the first of the places over which it has to go. It makes an index where it looks for a parameter and has none yet. Where memory is wanting the
 /// scan is broken.
 fn restart<T: PlacedTable>(
     alloc: Global,
@@ -276,8 +286,17 @@ fn restart<T: PlacedTable>(
         scan.broken = true;
         return Err(NoMemory);
     }
+    let span = span_of(
+        alloc,
+        tables,
+        scan.table,
+        &scan.spec,
+        &params,
+        scan.index.is_some(),
+    );
     scan.params = params;
-    scan.at = 0;
+    scan.at = span.first;
+    scan.end = span.end;
     Ok(())
 }
 

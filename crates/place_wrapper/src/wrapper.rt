@@ -1,7 +1,6 @@
 //! The wrapper over blobs that are read as tables of rows at places.
 ghost use Rattle.std.specs.Prelude.{◌≡◌, ◌≤◌, ℕ, map, length, IfOk, IfErr, IfSome, IsSome, IsTrue, None, Some, Option, option_map, true};
-ghost use Rattle.fdw_api.specs.Scan.{restriction_form};
-ghost use Rattle.fdw_api.specs.Kinds.{Entry, Known};
+ghost use Rattle.fdw_api.specs.Prelude.{restriction_form, Entry, Known};
 ghost use Rattle.fdw_api.specs.declared.interface.Fault.TheVariants.{NoMemory as OutOfMemory};
 ghost use Rattle.blob_store.specs.Names.{is_blob_name};
 ghost use Rattle.place_wrapper.specs.Holdings.{held_under};
@@ -12,6 +11,7 @@ ghost use Rattle.place_wrapper.specs.Boxes.{table_at, write_fits, ScansFit, pull
 use crate::faults::fault_of;
 use crate::format::PlacedTable;
 use crate::scans::{LiveScan, begin_again, place_of, pull, spoil};
+use crate::spans::span_of;
 use crate::tables::{make_place, table_at};
 use blob_store::{Blobs, is_blob_name};
 use fdw_api::interface::{Counts, Fault, RowId, SourceRow, TableOption, Ticket, Wrapper};
@@ -25,7 +25,7 @@ use wrapper_parts::{RowChange, StagedWrite, add_change};
 ///
 /// A remote name is the name of a blob. A blob is read when it is bound, and the id of a row is its place. A scan takes what its format
 /// takes; one that looks for a parameter builds an index of that column when it is begun again, and goes from place to place by it until it
-/// ends. A refused call uses no ticket number up. It answers `Fault::Source` where the blobs failed by their device or are worn out, and
+/// ends. Where the first column rises, a scan goes only over the places of the keys that its restrictions ask for. A refused call uses no ticket number up. It answers `Fault::Source` where the blobs failed by their device or are worn out, and
 /// `faults` are the blobs' `failures`.
 #[derive(Drop)]
 pub struct PlaceWrapper<B: Blobs, T: PlacedTable> {
@@ -92,9 +92,8 @@ fn pulled_after(next: &Result<Option<SourceRow>, Fault>, pulled: u64) -> u64
 }
 
 impl<B: Blobs, T: PlacedTable> Wrapper for PlaceWrapper<B, T> {
-    ghost use Rattle.fdw_api.specs.Scan.{spec_by};
+    ghost use Rattle.fdw_api.specs.Prelude.{spec_by, Allows};
     ghost use Rattle.fdw_api.specs.State.{table_of as table_in};
-    ghost use Rattle.fdw_api.specs.Calls.{Allows};
     ghost use Rattle.place_wrapper.specs.States.{place_state};
 
     ghost meaning = { λ w. place_state T.form (B.meaning w.blobs) w.tables.items w.scans.items w.staged w.next w.pulled };
@@ -173,11 +172,14 @@ impl<B: Blobs, T: PlacedTable> Wrapper for PlaceWrapper<B, T> {
         }
         let spec = spec.copy(alloc)?;
         let params = copy_values(alloc, params)?;
+        let table = t.number as usize;
+        let span = span_of(alloc, &self.tables, table, &spec, &params, false);
         let scan = LiveScan {
-            table: t.number as usize,
+            table,
             spec,
             params,
-            at: 0,
+            at: span.first,
+            end: span.end,
             index: None,
             broken: false,
         };

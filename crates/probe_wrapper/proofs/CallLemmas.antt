@@ -4,9 +4,7 @@ use Rattle.std.specs.Ordering.{nat_cmp}
 use Rattle.std.specs.FinMap as finmap
 use Rattle.std.specs.FinMap.{gets}
 use Rattle.med_value.specs.Datum.{Tuple}
-use Rattle.fdw_api.specs.Scan.{Spec}
-use Rattle.fdw_api.specs.State.{BoxState, scan_of}
-use Rattle.fdw_api.specs.Calls.{Begins, IsOpen, CanRescan}
+use Rattle.fdw_api.specs.Prelude.{Spec, BoxState, scan_of, Begins, IsOpen, CanRescan}
 
 put_same : {X : Type 0} (m : finmap.FinMap nat_cmp X) (k : ℕ) (v : X) → finmap.get (finmap.insert m k v) k ≡ Some v
 put_same m k v = grind (gets, rules)

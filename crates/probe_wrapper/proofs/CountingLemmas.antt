@@ -1,12 +1,7 @@
 -- What is said of the inner wrapper is said of a counting one.
 use Rattle.std.proofs.Common.{ℕ, Bool, true, false, List, ap, Result, Ok, Err, IfOk, IfErr}
 use Rattle.med_value.specs.Datum.{Tuple}
-use Rattle.fdw_api.specs.Scan.{Spec}
-use Rattle.fdw_api.specs.Kinds.{Column, OptionForm, Change}
-use Rattle.fdw_api.specs.State.{BoxState, Ledger, Staging}
-use Rattle.fdw_api.specs.Calls.{Leaves, Binds, Allows, Begins}
-use Rattle.fdw_api.specs.Wishes.{AllowsPromise}
-use Rattle.fdw_api.specs.Writes.{RefusesChange, Closes, Outcome}
+use Rattle.fdw_api.specs.Prelude.{Spec, Column, OptionForm, Change, BoxState, Ledger, Staging, Leaves, Binds, Allows, Begins, AllowsPromise, RefusesChange, Closes, Outcome}
 use Rattle.fdw_api.specs.declared.interface.Fault.{Fault}
 use Rattle.probe_wrapper.specs.Counting.{counted}
 use Rattle.probe_wrapper.proofs.RoundLemmas.{change_cause}

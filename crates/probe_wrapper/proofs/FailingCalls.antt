@@ -1,11 +1,7 @@
 -- The calls of a failing wrapper that reach its inner one, after they were counted.
 use Rattle.std.proofs.Common.{◌≡◌, ℕ, Bool, List, Option, sym, subst}
 use Rattle.med_value.specs.Datum.{Tuple}
-use Rattle.fdw_api.specs.Scan.{Spec}
-use Rattle.fdw_api.specs.Kinds.{Column, OptionForm, Change}
-use Rattle.fdw_api.specs.State.{BoxState}
-use Rattle.fdw_api.specs.Calls.{Binds, RefusesBind, Begins, RefusesBegin, IsOpen, Iterates, Breaks, Rescans, Ends}
-use Rattle.fdw_api.specs.Writes.{Opens, RefusesModify, CanChange, Stages, RefusesChange, Closes, RefusesClose}
+use Rattle.fdw_api.specs.Prelude.{Spec, Column, OptionForm, Change, BoxState, Binds, RefusesBind, Begins, RefusesBegin, IsOpen, Iterates, Breaks, Rescans, Ends, Opens, RefusesModify, CanChange, Stages, RefusesChange, Closes, RefusesClose}
 use Rattle.fdw_api.specs.declared.interface.Fault.{Fault}
 use Rattle.fdw_api.specs.declared.interface.SourceRow.{SourceRow}
 use Rattle.probe_wrapper.specs.declared.failing.Failure.{Failure}

@@ -4,13 +4,10 @@ use Rattle.std.specs.FinMap as finmap
 use Rattle.std.specs.FinMap.{gets, nat_cmp-IsAntisymmetric}
 use Rattle.std.specs.Cmp.{nat_cmp_total}
 use Rattle.std.proofs.lemmas.Bool.Decides.{eqb_tells}
+use Rattle.std.proofs.lemmas.Option.{same_Some}
 use Rattle.med_value.specs.Datum.{Tuple}
-use Rattle.fdw_api.specs.Scan.{Spec}
-use Rattle.fdw_api.specs.Kinds.{Column, OptionForm, Change}
+use Rattle.fdw_api.specs.Prelude.{Spec, Column, OptionForm, Change, bumped, faults_after, Leaves, NoScan, Allows, Binds, CanUnbind, Unbinds, Refuses, Begins, Iterates, Breaks, CanRescan, Rescans, Ends, new_scan, AllowsPromise, CanModify, Opens, CanChange, Stages, RefusesChange, CanClose, Closes, RefusesClose, Outcome}
 use Rattle.fdw_api.specs.State.{BoxState, Ledger, Staging, Scan as LiveScan, scan_of, table_of}
-use Rattle.fdw_api.specs.Calls.{bumped, faults_after, Leaves, NoScan, Allows, Binds, CanUnbind, Unbinds, Refuses, Begins, Iterates, Breaks, CanRescan, Rescans, Ends, new_scan}
-use Rattle.fdw_api.specs.Wishes.{AllowsPromise}
-use Rattle.fdw_api.specs.Writes.{CanModify, Opens, CanChange, Stages, RefusesChange, CanClose, Closes, RefusesClose, Outcome}
 use Rattle.fdw_api.specs.declared.interface.Fault.{Fault}
 use Rattle.fdw_api.specs.declared.interface.Fault.TheVariants.{NoMemory, Source, Refused}
 use Rattle.fdw_api.specs.declared.interface.SourceRow.{SourceRow}
@@ -18,7 +15,7 @@ use Rattle.probe_wrapper.specs.declared.failing.Failure.{Failure}
 use Rattle.probe_wrapper.specs.declared.failing.Failure.TheVariants.{Before, Scan, Write, Past}
 use Rattle.probe_wrapper.specs.Failing.{after_call, has_come, is_write, spoilt, live_of, staging_of, faults_of, failed_ledger, failed, past_scan, past_write}
 use Rattle.probe_wrapper.proofs.SeenScans.{Scans, put_same, put_other, taken_same, taken_other}
-use Rattle.probe_wrapper.proofs.RoundLemmas.{some_inj, change_cause, close_cause}
+use Rattle.probe_wrapper.proofs.RoundLemmas.{change_cause, close_cause}
 
 -- the failure broke this scan; it broke the write
 abbrev pub is_of : Failure → ℕ → Bool
@@ -167,7 +164,7 @@ open_in f s q scan at whole = go (scan_of s q) refl (sym (seen_at f s.ledger.liv
     go : (o : Option LiveScan) → scan_of s q ≡ o → option_map (seen (is_of f q)) o ≡ Some scan → (scan_of s q ≡ Some scan) × (is_of f q ≡ false)
     go None e i = absurd cc
     go (Some t) e i =
-        let same = some_inj (seen (is_of f q) t) scan i in
+        let same = same_Some (seen (is_of f q) t) scan i in
         let no_ = or_false (is_of f q) t.broken (ap (λ (z : LiveScan). z.broken) same ∙ whole) in
         (e ∙ ap (λ (z : LiveScan). Some z) (sym (seen_id (is_of f q) t no_) ∙ same), no_)
 
@@ -361,7 +358,7 @@ opens f s t n o = record {
 staged_in : (f : Failure) (o : Option Staging) (staging : Staging) → option_map (staging_of f) o ≡ Some staging → staging.broken ≡ false → (o ≡ Some staging) × (is_write f ≡ false)
 staged_in f None staging e whole = absurd cc
 staged_in f (Some t) staging e whole =
-    let same = some_inj (staging_of f t) staging e in
+    let same = same_Some (staging_of f t) staging e in
     let no_ = or_false (is_write f) t.broken (ap (λ (z : Staging). z.broken) same ∙ whole) in
     (ap (λ (z : Staging). Some z) (sym (whole_id t no_) ∙ same), no_)
   where
@@ -405,7 +402,7 @@ can_close f s keep c = go s.ledger.staged refl c.is_staged
     go : (o : Option Staging) → s.ledger.staged ≡ o → option_map (staging_of f) o ≡ Some c.staging → CanClose s keep
     go None e i = absurd cc
     go (Some t) e i =
-        let same = some_inj (staging_of f t) c.staging i in
+        let same = same_Some (staging_of f t) c.staging i in
         record {
           staging = t;
           is_staged = e;

@@ -2,17 +2,10 @@
 use Rattle.std.proofs.Common.{◌≡◌, ◌≢◌, ℕ, ◌+◌, ◌-◌, ◌^◌, ◌<◌, Bool, true, false, List, Option, Some, None, IsSome, ap, sym, ◌∙◌, subst}
 use Rattle.std.specs.FinMap as finmap
 use Rattle.med_value.specs.Datum.{Tuple}
-use Rattle.fdw_api.specs.Scan.{Spec, GivenRow}
-use Rattle.fdw_api.specs.Kinds.{Column, OptionForm, Change}
-use Rattle.fdw_api.specs.State.{BoxState, Nature, Ledger, Staging, Scan, is_honest, scan_of}
-use Rattle.fdw_api.specs.Calls.{Leaves, LeavesAll, BindCause, Begins, Ends, new_scan}
-use Rattle.fdw_api.specs.Writes.{ChangeCause, CloseCause}
+use Rattle.fdw_api.specs.Prelude.{Spec, GivenRow, Column, OptionForm, Change, BoxState, Nature, Ledger, Staging, Scan, is_honest, scan_of, Leaves, LeavesAll, BindCause, Begins, Ends, new_scan, ChangeCause, CloseCause}
 use Rattle.fdw_api.specs.declared.interface.Fault.{Fault}
 use Rattle.fdw_api.specs.declared.interface.Fault.TheVariants.{NoMemory, Source, Refused}
 use Rattle.probe_wrapper.proofs.SeenScans.{Scans, put_other, gone_again}
-
-pub some_inj : {A : Type 0} (a b : A) → Some a ≡ Some b → a ≡ b
-some_inj a b q = cc
 
 -- a wrapper round another does not promise to keep numbers
 pub never : {X : Type 0} → true ≡ false → X

@@ -3,19 +3,16 @@ use Rattle.std.proofs.Common.{◌≡◌, ◌≢◌, ℕ, ◌+◌, ◌-◌, ◌^�
 use Rattle.std.specs.FinMap as finmap
 use Rattle.med_value.specs.Datum.{Tuple}
 use Rattle.std.specs.List.{list_all}
-use Rattle.fdw_api.specs.Scan.{Spec, GivenRow, IsComing, params_fit, shown_fits}
-use Rattle.fdw_api.specs.Kinds.{Column, OptionForm, Change}
-use Rattle.fdw_api.specs.State.{BoxState, Staging, Scan, IsIdle, scan_of, table_of, rows_of}
-use Rattle.fdw_api.specs.Calls.{bumped, faults_after, row_of, Leaves, NoScan, Allows, Binds, RefusesBind, CanUnbind, Unbinds, Refuses, Begins, RefusesBegin, IsOpen, Iterates, Breaks, CanRescan, Rescans, Ends, new_scan}
-use Rattle.fdw_api.specs.Writes.{CanModify, Opens, RefusesModify, Stages, RefusesChange, CanClose, Closes, RefusesClose, Outcome}
+use Rattle.std.proofs.lemmas.Bool.{and_parts}
+use Rattle.std.proofs.lemmas.Option.{same_Some}
+use Rattle.fdw_api.specs.Prelude.{Spec, GivenRow, IsComing, params_fit, shown_fits, Column, OptionForm, Change, BoxState, Staging, Scan, IsIdle, scan_of, table_of, rows_of, bumped, faults_after, row_of, Leaves, NoScan, Allows, Binds, RefusesBind, CanUnbind, Unbinds, Refuses, Begins, RefusesBegin, IsOpen, Iterates, Breaks, CanRescan, Rescans, Ends, new_scan, CanModify, Opens, RefusesModify, Stages, RefusesChange, CanClose, Closes, RefusesClose, Outcome, is_unpromised}
 use Rattle.fdw_api.specs.declared.interface.Fault.{Fault}
 use Rattle.fdw_api.specs.declared.interface.Fault.TheVariants.{NoMemory}
 use Rattle.fdw_api.specs.declared.interface.SourceRow.{SourceRow}
-use Rattle.fdw_api.specs.Wishes.{is_unpromised}
 use Rattle.probe_wrapper.specs.Shuffled.{turned, Turn, turned_rows, turned_coming, left_of, waiting_fits, is_spoilt, seen_scan, seen, reordered_ledger, reordered, Becomes, Stays, is_unread, TakesFirst, TurnsRows, ReadsOut, StopsOut}
 use Rattle.probe_wrapper.specs.LiveScans.{round}
 use Rattle.probe_wrapper.proofs.SeenScans.{Scans}
-use Rattle.probe_wrapper.proofs.RoundLemmas.{some_inj, never, bind_cause, change_cause, close_cause, begun_and_ended}
+use Rattle.probe_wrapper.proofs.RoundLemmas.{never, bind_cause, change_cause, close_cause, begun_and_ended}
 use Rattle.probe_wrapper.proofs.ShuffledLemmas.{Turns, seen_get, insert_of, change_of, remove_of, keep_of, turned_come, turned_pass, turned_length, turned_nil, nil_turned}
 
 -- a scan that was just begun
@@ -60,13 +57,13 @@ open_in s turns p q scan at whole = go (turns q) (scan_of s q) refl refl (sym (s
     go : (o : Option Turn) (i : Option Scan) → turns q ≡ o → scan_of s q ≡ i → option_map (seen_scan o) i ≡ Some scan → OpenInside s turns q scan
     go o None e f h = absurd cc
     go None (Some x) e f h =
-        let same = some_inj (record x { broken = true }) scan h in
+        let same = same_Some (record x { broken = true }) scan h in
         absurd (clash (ap (λ (z : Scan). z.broken) same ∙ whole))
       where
         clash : true ≡ false → ⊥
         clash e = cc
     go (Some t) (Some x) e f h =
-        let same = some_inj (seen_scan (Some t) x) scan h in
+        let same = same_Some (seen_scan (Some t) x) scan h in
         let all : (t.broken || (is_spoilt x || not (waiting_fits x.kinds x.spec t.waiting))) ≡ false = ap (λ (z : Scan). z.broken) same ∙ whole in
         let rest = or_right t.broken _ all in
         let good = or_left (is_spoilt x) _ rest in
@@ -209,10 +206,6 @@ abbrev pub counted : Option SourceRow → ℕ → ℕ
 counted None p = p
 counted (Some row) p = bumped p
 
-both : (a b : Bool) → (a && b) ≡ true → (a ≡ true) × (b ≡ true)
-both true b e = (refl, e)
-both false b e = absurd cc
-
 -- a scan whose rows fit is as whole as it was
 still_whole : (a b c : Bool) → a ≡ false → b ≡ false → c ≡ true → (a || (b || not c)) ≡ false
 still_whole a b c e f h = rw (e, f, h) refl
@@ -231,13 +224,13 @@ gives_waiting old new p s q None o k = record {
     now o e = ap (λ (x : Option Turn). turned_coming x (s.content.coming q)) e ∙ ap (λ (x : Option (List GivenRow)). turned_rows k.turn.places x (s.content.coming q)) k.wait ∙ k.hands.0
 gives_waiting old new p s q (Some row) o k =
     let w = open_in s old p q o.0 o.1 o.2 in
-    let same : w.turn ≡ k.turn = some_inj w.turn k.turn (sym w.at ∙ k.at) in
+    let same : w.turn ≡ k.turn = same_Some w.turn k.turn (sym w.at ∙ k.at) in
     let rest = k.hands.0 in
     let becomes = k.hands.2 in
     let scan = o.0 in
     let fits : list_all (λ r. shown_fits w.inner.kinds w.inner.spec r.cells) (row_of row ∷ rest) ≡ true =
     sym (ap (waiting_fits w.inner.kinds w.inner.spec) (ap (λ (t : Turn). t.waiting) same ∙ k.wait ∙ ap (λ (l : List GivenRow). Some l) k.hands.1)) ∙ w.fits in
-    let pair = both (shown_fits w.inner.kinds w.inner.spec (row_of row).cells) _ fits in
+    let pair = and_parts (shown_fits w.inner.kinds w.inner.spec (row_of row).cells) _ fits in
     let good : is_spoilt w.inner ≡ false = rw (w.whole_in, w.unpromised) refl in
     let whole_after : (k.turn.broken || (is_spoilt w.inner || not (list_all (λ r. shown_fits w.inner.kinds w.inner.spec r.cells) rest))) ≡ false =
     still_whole k.turn.broken (is_spoilt w.inner) _ (ap (λ (t : Turn). t.broken) (sym same) ∙ w.whole) good pair.1 in
@@ -268,7 +261,7 @@ unread_waits None t e u = absurd cc
 unread_waits (Some x) t e u = at x.waiting refl u
   where
     at : (w : Option (List GivenRow)) → x.waiting ≡ w → is_unread (Some (record x { waiting = w })) ≡ true → t.waiting ≡ None
-    at None f u = ap (λ (z : Turn). z.waiting) (sym (some_inj x t e)) ∙ f
+    at None f u = ap (λ (z : Turn). z.waiting) (sym (same_Some x t e)) ∙ f
     at (Some rows) f u = absurd cc
 
 -- the first row of a scan is given, whose inner scan was read for it
@@ -301,7 +294,7 @@ gives_first old new p s t q inner (Some row) u r k =
     let long : length (row_of row ∷ rest) ≡ length inner = ap (λ (l : List GivenRow). length l) (sym k.hands.1) ∙ turned_length k.turn.places inner in
     let fits : list_all (λ z. shown_fits r.scan.kinds r.scan.spec z.cells) (row_of row ∷ rest) ≡ true =
     ap (list_all (λ z. shown_fits r.scan.kinds r.scan.spec z.cells)) (sym k.hands.1) ∙ turned_pass (λ z. shown_fits r.scan.kinds r.scan.spec z.cells) k.turn.places inner r.typed in
-    let pair = both (shown_fits r.scan.kinds r.scan.spec (row_of row).cells) _ fits in
+    let pair = and_parts (shown_fits r.scan.kinds r.scan.spec (row_of row).cells) _ fits in
     let left_was : left_of k.turn.waiting ≡ 2 ^ 64 = ap left_of waits in
     record {
       nature = ap round r.nature;
@@ -356,7 +349,7 @@ pub rescans : (old new : Turns) (p : ℕ) (s t : BoxState) (q places : ℕ) (par
 rescans old new p s t q places params c r becomes =
     let o = open_in s old p q c.scan c.at c.whole in
     let w = becomes o.turn o.at in
-    let plain : is_unpromised r.scan.spec ≡ true = ap (λ (z : Scan). is_unpromised z.spec) (some_inj r.scan o.inner (sym r.at ∙ o.is)) ∙ o.unpromised in
+    let plain : is_unpromised r.scan.spec ≡ true = ap (λ (z : Scan). is_unpromised z.spec) (same_Some r.scan o.inner (sym r.at ∙ o.is)) ∙ o.unpromised in
     record {
       nature = ap round r.nature;
       scan = seen_scan (Some o.turn) r.scan;

@@ -8,9 +8,7 @@ use Rattle.std.proofs.lemmas.List.Sorted.{IsPermutation-append_comm, IsPermutati
 use Rattle.std.proofs.lemmas.List.Sums.{AllPass-from_list_all, list_all-from_AllPass}
 use Rattle.std.specs.List.{list_all}
 use Rattle.med_value.specs.Datum.{Tuple}
-use Rattle.fdw_api.specs.Scan.{Spec, GivenRow, TableRow, IsComing, given_row, meets_exact}
-use Rattle.fdw_api.specs.State.{Scan}
-use Rattle.fdw_api.specs.Wishes.{is_unpromised}
+use Rattle.fdw_api.specs.Prelude.{Spec, GivenRow, TableRow, IsComing, given_row, meets_exact, Scan, is_unpromised}
 use Rattle.fdw_api.proofs.Unpromised.{any_order, all_first, promises_none}
 use Rattle.probe_wrapper.specs.Shuffled.{turned, Turn, seen_scan, seen, Stays}
 use Rattle.probe_wrapper.proofs.SeenScans.{Scans, See, each_get, each_len, each_insert, each_change, each_remove, each_keep}

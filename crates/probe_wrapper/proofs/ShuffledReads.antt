@@ -4,9 +4,8 @@ use Rattle.std.specs.FinMap as finmap
 use Rattle.std.proofs.lemmas.List.{append-nil}
 use Rattle.std.specs.List.{list_all}
 use Rattle.std.proofs.lemmas.List.Folds.{list_all-append}
-use Rattle.fdw_api.specs.Scan.{GivenRow, shown_fits}
-use Rattle.fdw_api.specs.State.{Nature, Scan, Ledger, BoxState, is_honest, scan_of}
-use Rattle.fdw_api.specs.Calls.{LeavesOthers, bumped, faults_after, IsOpen, GivesRow, GivesNone, Breaks}
+use Rattle.std.proofs.lemmas.Option.{same_Some}
+use Rattle.fdw_api.specs.Prelude.{GivenRow, shown_fits, Nature, Scan, Ledger, BoxState, is_honest, scan_of, LeavesOthers, bumped, faults_after, IsOpen, GivesRow, GivesNone, Breaks}
 use Rattle.fdw_api.specs.declared.interface.Fault.{Fault}
 use Rattle.fdw_api.specs.declared.interface.Fault.TheVariants.{NoMemory}
 use Rattle.probe_wrapper.specs.Shuffled.{ReadsOut, StopsOut}
@@ -29,9 +28,6 @@ pub record HasRead (number : ℕ) (old : BoxState) (rows : List GivenRow) (new :
   pub typed : list_all (λ r. shown_fits scan.kinds scan.spec r.cells) rows ≡ true
   pub coming : is_honest old → old.content.coming number ≡ rows ++ new.content.coming number
   pub leaves : is_honest old → LeavesOthers number old new
-
-some_inj : {A : Type 0} (a b : A) → Some a ≡ Some b → a ≡ b
-some_inj a b q = cc
 
 honest_on : (s t : BoxState) → t.nature ≡ s.nature → is_honest s → is_honest t
 honest_on s t e h = ap (λ (n : Nature). n.honest) e ∙ h
@@ -71,7 +67,7 @@ gone_on n old s new rows h l honest = leaves_on n old s new (others n old s rows
 
 row_ledger : (n : ℕ) (old s new : BoxState) (rows : List GivenRow) (row : GivenRow) (h : HasRead n old rows s) (g : GivesRow s n row new) → new.ledger ≡ record old.ledger { live = finmap.insert old.ledger.live n (record h.scan { left = g.left }); pulled = bumped h.pulled }
 row_ledger n old s new rows row h g =
-    let same : g.scan ≡ record h.scan { left = h.left } = some_inj g.scan (record h.scan { left = h.left }) (sym g.at ∙ now n old s rows h) in
+    let same : g.scan ≡ record h.scan { left = h.left } = same_Some g.scan (record h.scan { left = h.left }) (sym g.at ∙ now n old s rows h) in
     g.ledger
     ∙ ap (λ (l : Ledger). record l { live = finmap.insert l.live n (record g.scan { left = g.left }); pulled = bumped l.pulled }) h.ledger
     ∙ ap (λ (m : Scans). record old.ledger { live = m; pulled = bumped h.pulled })
@@ -79,7 +75,7 @@ row_ledger n old s new rows row h g =
 
 row_typed : (n : ℕ) (old s new : BoxState) (rows : List GivenRow) (row : GivenRow) (h : HasRead n old rows s) (g : GivesRow s n row new) → shown_fits h.scan.kinds h.scan.spec row.cells ≡ true
 row_typed n old s new rows row h g =
-    let same : g.scan ≡ record h.scan { left = h.left } = some_inj g.scan (record h.scan { left = h.left }) (sym g.at ∙ now n old s rows h) in
+    let same : g.scan ≡ record h.scan { left = h.left } = same_Some g.scan (record h.scan { left = h.left }) (sym g.at ∙ now n old s rows h) in
     ap (λ (z : Scan). shown_fits z.kinds z.spec row.cells) (sym same) ∙ g.typed
 
 pub more : (n : ℕ) (old s new : BoxState) (rows : List GivenRow) (row : GivenRow) → HasRead n old rows s → GivesRow s n row new → HasRead n old (rows ++ row ∷ []) new
@@ -132,7 +128,7 @@ stops n old s new rows row h g = record {
 
 pub breaks : (n : ℕ) (old s new : BoxState) (rows : List GivenRow) (fault : Fault) → HasRead n old rows s → Breaks s n fault new → StopsOut old n fault new
 breaks n old s new rows fault h b =
-    let same : b.scan ≡ record h.scan { left = h.left } = some_inj b.scan (record h.scan { left = h.left }) (sym b.at ∙ now n old s rows h) in
+    let same : b.scan ≡ record h.scan { left = h.left } = same_Some b.scan (record h.scan { left = h.left }) (sym b.at ∙ now n old s rows h) in
     record {
       nature = b.nature ∙ h.nature;
       no_cause = b.no_cause;

@@ -5,10 +5,9 @@ use Rattle.std.specs.Map.{lookup}
 use Rattle.std.specs.BTreeMap as tree
 use Rattle.std.specs.BTreeMap.{BTreeMap, is_at}
 use Rattle.std.proofs.lemmas.List.{length-map}
+use Rattle.std.proofs.lemmas.Option.{same_Some}
 use Rattle.med_value.specs.Datum.{Tuple}
-use Rattle.fdw_api.specs.Scan.{GivenRow}
-use Rattle.fdw_api.specs.State.{BoxState}
-use Rattle.fdw_api.specs.Calls.{row_of, bumped, IsOpen, Breaks, CanRescan, Rescans}
+use Rattle.fdw_api.specs.Prelude.{GivenRow, BoxState, row_of, bumped, IsOpen, Breaks, CanRescan, Rescans}
 use Rattle.fdw_api.specs.declared.interface.Fault.{Fault}
 use Rattle.fdw_api.specs.declared.interface.SourceRow.{SourceRow}
 use Rattle.probe_wrapper.specs.declared.shuffled.TurnedScan.{TurnedScan}
@@ -16,9 +15,6 @@ use Rattle.probe_wrapper.specs.Shuffled.{turned, Turn, turn_of, turns_of, turned
 use Rattle.probe_wrapper.proofs.SeenScans.{apart}
 use Rattle.probe_wrapper.proofs.ShuffledLemmas.{turned_map}
 use Rattle.probe_wrapper.proofs.ShuffledCalls.{open_in, breaks_first, rescans}
-
-some_inj : {A : Type 0} (a b : A) → Some a ≡ Some b → a ≡ b
-some_inj a b q = cc
 
 pub becomes_of : (old new : BTreeMap ℕ TurnedScan) (number : ℕ) (scan : TurnedScan) → tree.Updates nat_cmp old new number (Some scan) → Becomes (turns_of old) number (turn_of scan) (turns_of new)
 becomes_of old new number scan u = record {
@@ -43,7 +39,7 @@ changed old new number turn f h same at u = go (tree.get nat_cmp old number) at 
   where
     go : (e : Option TurnedScan) → option_map turn_of e ≡ Some turn → IfSome e (λ x. tree.Updates nat_cmp old new number (Some (f x))) → Becomes (turns_of old) number (h turn) (turns_of new)
     go None i u = absurd cc
-    go (Some x) i u = subst (λ (t : Turn). Becomes (turns_of old) number t (turns_of new)) (same x ∙ ap h (some_inj (turn_of x) turn i)) (becomes_of old new number (f x) u)
+    go (Some x) i u = subst (λ (t : Turn). Becomes (turns_of old) number t (turns_of new)) (same x ∙ ap h (same_Some (turn_of x) turn i)) (becomes_of old new number (f x) u)
 
 pub breaks_read : (s t : BoxState) (old new : BTreeMap ℕ TurnedScan) (p q : ℕ) (fault : Fault) → IsOpen (reordered s (turns_of old) p) q → StopsOut s q fault t → IfSome (tree.get nat_cmp old q) (λ x. tree.Updates nat_cmp old new q (Some (record x { broken = true }))) → Breaks (reordered s (turns_of old) p) q fault (reordered t (turns_of new) p)
 breaks_read s t old new p q fault o r u =

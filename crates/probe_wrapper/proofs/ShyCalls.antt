@@ -1,21 +1,18 @@
 -- What is said of the calls of the inner wrapper is said of those of a shy one, and what a shy box is asked the inner one may be asked.
 use Rattle.std.proofs.Common.{◌≡◌, ◌≢◌, ◌+◌, ◌-◌, ◌^◌, ◌<◌, ℕ, Bool, true, false, List, [], ◌∷◌, ◌++◌, Contains, Option, Some, None, IsSome, option_map, refl, ap, sym, ◌∙◌, subst, arith}
 use Rattle.std.specs.FinMap as finmap
+use Rattle.std.proofs.lemmas.Option.{same_Some}
 use Rattle.med_value.specs.Datum.{Tuple}
-use Rattle.fdw_api.specs.Scan.{Spec, spec_of, RestrictionForm, plain_spec, params_fit, shown_fits}
+use Rattle.fdw_api.specs.Prelude.{Spec, spec_of, RestrictionForm, plain_spec, params_fit, shown_fits, Column, OptionForm, Change, Entry, Held, Holding, Known, Unknown, BoxTable, BoxState, Staging, Scan, table_of, row_of, Picks, NoScan, Allows, CanBind, Binds, RefusesBind, CanUnbind, Unbinds, Refuses, bumped, faults_after, CanBegin, Begins, RefusesBegin, IsOpen, Iterates, Breaks, CanRescan, Rescans, Ends, new_scan, CanModify, Opens, RefusesModify, CanChange, Stages, RefusesChange, ChangeCause, CanClose, Closes, RefusesClose, CloseCause, Outcome, HoldsImage, row_of_change_fits}
 use Rattle.fdw_api.specs.declared.scan.ScanSpec.{ScanSpec}
 use Rattle.fdw_api.specs.declared.scan.Agree.{Agree}
-use Rattle.fdw_api.specs.Kinds.{Column, OptionForm, Change, Entry, Held, Holding, Known, Unknown}
-use Rattle.fdw_api.specs.State.{BoxTable, BoxState, Staging, Scan, table_of}
-use Rattle.fdw_api.specs.Calls.{row_of, Picks, NoScan, Allows, CanBind, Binds, RefusesBind, CanUnbind, Unbinds, Refuses, bumped, faults_after, CanBegin, Begins, RefusesBegin, IsOpen, Iterates, Breaks, CanRescan, Rescans, Ends, new_scan}
-use Rattle.fdw_api.specs.Writes.{CanModify, Opens, RefusesModify, CanChange, Stages, RefusesChange, ChangeCause, CanClose, Closes, RefusesClose, CloseCause, Outcome, HoldsImage, row_of_change_fits}
 use Rattle.fdw_api.specs.declared.interface.Fault.{Fault}
 use Rattle.fdw_api.specs.declared.interface.Fault.TheVariants.{NoMemory, Source, Refused}
 use Rattle.fdw_api.specs.declared.interface.SourceRow.{SourceRow}
 use Rattle.probe_wrapper.specs.Shy.{all_left, is_plain, is_bare, AskedForm, new_ask, asked_scan, hidden_bound, hidden_ledger, hidden, OffersNothing}
 use Rattle.probe_wrapper.specs.LiveScans.{round}
 use Rattle.probe_wrapper.proofs.SeenScans.{Scans, put_same}
-use Rattle.probe_wrapper.proofs.RoundLemmas.{some_inj, never, bind_cause, begun_and_ended}
+use Rattle.probe_wrapper.proofs.RoundLemmas.{never, bind_cause, begun_and_ended}
 use Rattle.probe_wrapper.proofs.ShyLemmas.{Asks, inner_of, some_of, none_of_none, plain_is_whole, whole_fits, bare_is_whole, bare_offers, bare_fits, plain_come, seen_get, insert_of, change_of, remove_of, keep_of, open_in, seen_at, seen_left, left_seen, table_seen, seen_broken, seen_begun, leaves, tables_set}
 
 -- what is asked for under one number becomes this, and all else is as before
@@ -180,7 +177,7 @@ gives hints asked s t q (Some row) c g = record {
     typed : shown_fits (asked_scan hints (asked q) g.scan).kinds (asked_scan hints (asked q) g.scan).spec (row_of row).cells ≡ true
     typed =
         let o = open_in hints s asked q c.0 c.1 c.2 in
-        let same : o.inner ≡ g.scan = some_inj o.inner g.scan (sym o.is ∙ g.at) in
+        let same : o.inner ≡ g.scan = same_Some o.inner g.scan (sym o.is ∙ g.at) in
         let bare : is_bare g.scan.spec ≡ true = subst (λ (z : Scan). is_bare z.spec ≡ true) same o.bare in
         ap (λ (x : Option AskedForm). shown_fits (asked_scan hints x g.scan).kinds (asked_scan hints x g.scan).spec (row_of row).cells) o.at
         ∙ whole_fits g.scan.kinds o.ask.spec g.scan.spec (row_of row).cells (plain_is_whole hints o.ask.spec o.plain) (bare_is_whole g.scan.spec bare) g.typed
@@ -210,7 +207,7 @@ pub rescans : (hints : Bool) (old new : Asks) (s t : BoxState) (q : ℕ) (params
 rescans hints old new s t q params c r again =
     let o = open_in hints s old q c.scan c.at c.whole in
     let w = again o.ask o.at in
-    let same : o.inner ≡ r.scan = some_inj o.inner r.scan (sym o.is ∙ r.at) in
+    let same : o.inner ≡ r.scan = same_Some o.inner r.scan (sym o.is ∙ r.at) in
     let bare : is_bare r.scan.spec ≡ true = subst (λ (z : Scan). is_bare z.spec ≡ true) same o.bare in
     record {
       nature = ap round r.nature;
@@ -231,7 +228,7 @@ rescans hints old new s t q params c r again =
 pub again_bare : (hints : Bool) (asked : Asks) (s t : BoxState) (q : ℕ) (params : Tuple) → CanRescan (hidden hints s asked) q params → Rescans s q [] t → OffersNothing t q
 again_bare hints asked s t q params c r =
     let o = open_in hints s asked q c.scan c.at c.whole in
-    let same : o.inner ≡ r.scan = some_inj o.inner r.scan (sym o.is ∙ r.at) in
+    let same : o.inner ≡ r.scan = same_Some o.inner r.scan (sym o.is ∙ r.at) in
     let bare : is_bare r.scan.spec ≡ true = subst (λ (z : Scan). is_bare z.spec ≡ true) same o.bare in
     record {
       scan = new_scan r.scan.table r.scan.kinds r.scan.spec [] r.left;

@@ -2,9 +2,7 @@
 use Rattle.std.proofs.Common.{◌≡◌, ℕ, List, [], ap, ◌∙◌}
 use Rattle.std.specs.FinMap as finmap
 use Rattle.med_value.specs.Datum.{Tuple}
-use Rattle.fdw_api.specs.Scan.{Spec, plain_spec}
-use Rattle.fdw_api.specs.State.{BoxState}
-use Rattle.fdw_api.specs.Calls.{Begins}
+use Rattle.fdw_api.specs.Prelude.{Spec, plain_spec, BoxState, Begins}
 use Rattle.probe_wrapper.specs.Shy.{Wants}
 use Rattle.probe_wrapper.proofs.SeenScans.{put_same}
 

@@ -2,17 +2,15 @@
 use Rattle.std.proofs.Common.{◌≡◌, ◌≢◌, ℕ, Bool, true, false, not, ◌&&◌, ◌||◌, nat_eq, if◌then◌else◌, List, [], ◌∷◌, length, replicate, map, Option, Some, None, IsSome, option_map, refl, ap, sym, ◌∙◌, subst}
 use Rattle.std.specs.FinMap as finmap
 use Rattle.std.proofs.lemmas.List.Elements.{All-weaker}
+use Rattle.std.proofs.lemmas.Bool.{and_parts, not-true}
+use Rattle.std.proofs.lemmas.Option.{same_Some}
 use Rattle.med_value.specs.Datum.{Tuple}
-use Rattle.fdw_api.specs.Scan.{Spec, RestrictionForm, pick, given_row, GivenRow, TableRow, IsComing, meets_all, meets_exact, params_fit, row_fits, cells_fit, shown_fits}
+use Rattle.fdw_api.specs.Prelude.{Spec, RestrictionForm, pick, given_row, GivenRow, TableRow, IsComing, meets_all, meets_exact, params_fit, row_fits, cells_fit, shown_fits, BoxTable, BoxState, Ledger, Scan, IsIdle, scan_of, set_at, Leaves, IsOpen, new_scan, is_unpromised}
 use Rattle.med_value.specs.declared.value.ColType.{ColType}
 use Rattle.fdw_api.specs.declared.scan.Agree.{Agree}
 use Rattle.fdw_api.specs.declared.scan.Agree.TheVariants.{Ignored, Hint, Exact}
-use Rattle.fdw_api.specs.State.{BoxTable, BoxState, Ledger, Scan, IsIdle, scan_of, set_at}
-use Rattle.fdw_api.specs.Calls.{Leaves, IsOpen, new_scan}
-use Rattle.fdw_api.specs.Wishes.{is_unpromised}
 use Rattle.fdw_api.proofs.Unpromised.{any_order, all_first, promises_none}
 use Rattle.probe_wrapper.specs.Shy.{all_left, is_plain, has_none, is_bare, AskedForm, asked_scan, hidden_bound, hidden_ledger, hidden}
-use Rattle.probe_wrapper.proofs.RoundLemmas.{some_inj}
 use Rattle.probe_wrapper.proofs.SeenScans.{Scans, See, each_get, each_len, each_insert, each_change, each_remove, each_keep}
 
 abbrev pub Asks : Type 0
@@ -21,7 +19,7 @@ Asks = ℕ → Option AskedForm
 -- the inner wrapper's table
 pub inner_of : (hints : Bool) (o : Option BoxTable) (b : BoxTable) → option_map (hidden_bound hints) o ≡ Some b → (a : BoxTable) × (o ≡ Some a) × (hidden_bound hints a ≡ b)
 inner_of hints None b e = absurd cc
-inner_of hints (Some a) b e = (a, refl, some_inj _ _ e)
+inner_of hints (Some a) b e = (a, refl, same_Some _ _ e)
 
 pub some_of : (hints : Bool) (o : Option BoxTable) → IsSome (option_map (hidden_bound hints) o) → IsSome o
 some_of hints None e = absurd cc
@@ -29,14 +27,6 @@ some_of hints (Some a) e = refl
 
 pub none_of_none : (hints : Bool) (o : Option BoxTable) → o ≡ None → option_map (hidden_bound hints) o ≡ None
 none_of_none hints o e = rw e refl
-
-pub both : (a b : Bool) → (a && b) ≡ true → (a ≡ true) × (b ≡ true)
-both true b e = (refl, e)
-both false b e = absurd cc
-
-not_true : (a : Bool) → not a ≡ true → a ≡ false
-not_true true e = absurd cc
-not_true false e = refl
 
 none_there : (fs : List RestrictionForm) → has_none fs ≡ true → fs ≡ []
 none_there [] e = refl
@@ -50,15 +40,15 @@ hint_is_left (f ∷ fs) = hint_is_left fs
 -- what is told of a plain and of a bare scan
 pub plain_tells : (hints : Bool) (spec : Spec) → is_plain hints spec ≡ true → (spec.narrow ≡ false) × (is_unpromised spec ≡ true) × (all_left hints spec.offered spec.answers ≡ true)
 plain_tells hints spec e =
-    let w = both (not spec.narrow) (is_unpromised spec && all_left hints spec.offered spec.answers) e in
-    let v = both (is_unpromised spec) (all_left hints spec.offered spec.answers) w.1 in
-    (not_true spec.narrow w.0, v.0, v.1)
+    let w = and_parts (not spec.narrow) (is_unpromised spec && all_left hints spec.offered spec.answers) e in
+    let v = and_parts (is_unpromised spec) (all_left hints spec.offered spec.answers) w.1 in
+    (not-true spec.narrow w.0, v.0, v.1)
 
 pub bare_tells : (spec : Spec) → is_bare spec ≡ true → (spec.narrow ≡ false) × (is_unpromised spec ≡ true) × (has_none spec.offered ≡ true)
 bare_tells spec e =
-    let w = both (not spec.narrow) (is_unpromised spec && has_none spec.offered) e in
-    let v = both (is_unpromised spec) (has_none spec.offered) w.1 in
-    (not_true spec.narrow w.0, v.0, v.1)
+    let w = and_parts (not spec.narrow) (is_unpromised spec && has_none spec.offered) e in
+    let v = and_parts (is_unpromised spec) (has_none spec.offered) w.1 in
+    (not-true spec.narrow w.0, v.0, v.1)
 
 pub bare_is_whole : (spec : Spec) → is_bare spec ≡ true → spec.narrow ≡ false
 bare_is_whole spec e = (bare_tells spec e).0
@@ -82,7 +72,7 @@ no_exact : (hints : Bool) (fs : List RestrictionForm) (answers : List Agree) (pa
 no_exact hints [] answers params cells e = refl
 no_exact hints (f ∷ fs) [] params cells e = refl
 no_exact hints (f ∷ fs) (Ignored ∷ answers) params cells e = no_exact hints fs answers params cells e
-no_exact hints (f ∷ fs) (Hint ∷ answers) params cells e = no_exact hints fs answers params cells (both hints _ e).1
+no_exact hints (f ∷ fs) (Hint ∷ answers) params cells e = no_exact hints fs answers params cells (and_parts hints _ e).1
 no_exact hints (f ∷ fs) (Exact ∷ answers) params cells e = absurd cc
 
 whole_shown : (spec : Spec) (r : TableRow) → spec.narrow ≡ false → given_row spec r ≡ record { id = r.id; cells = r.cells }
@@ -167,13 +157,13 @@ open_in hints s asked q scan at whole = go (asked q) (scan_of s q) refl refl (sy
     go : (o : Option AskedForm) (i : Option Scan) → asked q ≡ o → scan_of s q ≡ i → option_map (asked_scan hints o) i ≡ Some scan → OpenInside hints s asked q scan
     go o None e f h = absurd cc
     go None (Some x) e f h =
-        let same = some_inj (record x { broken = true }) scan h in
+        let same = same_Some (record x { broken = true }) scan h in
         clash (ap (λ (z : Scan). z.broken) same ∙ whole)
     go (Some a) (Some x) e f h =
-        let same = some_inj (asked_scan hints (Some a) x) scan h in
+        let same = same_Some (asked_scan hints (Some a) x) scan h in
         let all : (a.broken || (x.broken || not (is_plain hints a.spec && is_bare x.spec))) ≡ false = ap (λ (z : Scan). z.broken) same ∙ whole in
         let rest = or_right a.broken _ all in
-        let on = both (is_plain hints a.spec) (is_bare x.spec) (not_false _ (or_right x.broken _ rest)) in
+        let on = and_parts (is_plain hints a.spec) (is_bare x.spec) (not_false _ (or_right x.broken _ rest)) in
         record { ask = a; at = e; inner = x; is = f; seen_as = sym same; whole = or_left a.broken _ all; whole_in = or_left x.broken _ rest; plain = on.0; bare = on.1 }
 
 pub is_open_in : (hints : Bool) (s : BoxState) (asked : Asks) (q : ℕ) → IsOpen (hidden hints s asked) q → IsOpen s q

@@ -5,16 +5,15 @@ use Rattle.std.specs.Global.{Vec}
 use Rattle.std.specs.Map.{lookup}
 use Rattle.std.specs.BTreeMap as tree
 use Rattle.std.specs.BTreeMap.{BTreeMap, is_at}
+use Rattle.std.proofs.lemmas.Option.{same_Some}
 use Rattle.med_value.specs.Datum.{Tuple, datum}
 use Rattle.med_value.specs.declared.value.Value.{Value}
-use Rattle.fdw_api.specs.State.{BoxState}
-use Rattle.fdw_api.specs.Calls.{IsOpen, Breaks, CanRescan, Rescans}
+use Rattle.fdw_api.specs.Prelude.{BoxState, IsOpen, Breaks, CanRescan, Rescans}
 use Rattle.fdw_api.specs.declared.interface.Fault.TheVariants.{NoMemory}
 use Rattle.probe_wrapper.specs.declared.shy.AskedScan.{AskedScan}
 use Rattle.probe_wrapper.specs.Shy.{AskedForm, asked_form, asked_of, hidden}
 use Rattle.probe_wrapper.proofs.SeenScans.{apart}
 use Rattle.probe_wrapper.proofs.ShyLemmas.{open_in}
-use Rattle.probe_wrapper.proofs.RoundLemmas.{some_inj}
 use Rattle.probe_wrapper.proofs.ShyCalls.{rescans, spoils, AsksNow}
 
 pub asks_of : (old new : BTreeMap ℕ AskedScan) (number : ℕ) (scan : AskedScan) (ask : AskedForm) → asked_form scan ≡ ask → tree.Updates nat_cmp old new number (Some scan) → AsksNow (asked_of old) number ask (asked_of new)
@@ -40,7 +39,7 @@ changed old new number ask f h same at u = go (tree.get nat_cmp old number) at u
   where
     go : (e : Option AskedScan) → option_map asked_form e ≡ Some ask → IfSome e (λ x. tree.Updates nat_cmp old new number (Some (f x))) → AsksNow (asked_of old) number (h ask) (asked_of new)
     go None i u = absurd cc
-    go (Some x) i u = asks_of old new number (f x) (h ask) (same x ∙ ap h (some_inj (asked_form x) ask i)) u
+    go (Some x) i u = asks_of old new number (f x) (h ask) (same x ∙ ap h (same_Some (asked_form x) ask i)) u
 
 pub spoiled : (hints : Bool) (s : BoxState) (old new : BTreeMap ℕ AskedScan) (q : ℕ) → IsOpen (hidden hints s (asked_of old)) q → IfSome (tree.get nat_cmp old q) (λ x. tree.Updates nat_cmp old new q (Some (record x { broken = true }))) → Breaks (hidden hints s (asked_of old)) q NoMemory (hidden hints s (asked_of new))
 spoiled hints s old new q o u =

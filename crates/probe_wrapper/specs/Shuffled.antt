@@ -6,12 +6,9 @@ use Rattle.std.specs.BTreeMap as tree
 use Rattle.std.specs.BTreeMap.{BTreeMap}
 use Rattle.std.specs.List.{list_all}
 use Rattle.med_value.specs.declared.value.ColType.{ColType}
-use Rattle.fdw_api.specs.Scan.{Spec, GivenRow, shown_fits}
-use Rattle.fdw_api.specs.State.{Scan, Ledger, Content, BoxState, is_honest, scan_of}
-use Rattle.fdw_api.specs.Calls.{bumped, LeavesOthers, faults_after, not_refused, row_of}
+use Rattle.fdw_api.specs.Prelude.{Spec, GivenRow, shown_fits, Scan, Ledger, Content, BoxState, is_honest, scan_of, bumped, LeavesOthers, faults_after, not_refused, row_of, is_unpromised}
 use Rattle.fdw_api.specs.declared.interface.Fault.{Fault}
 use Rattle.fdw_api.specs.declared.interface.SourceRow.{SourceRow}
-use Rattle.fdw_api.specs.Wishes.{is_unpromised}
 use Rattle.probe_wrapper.specs.LiveScans.{round, each_seen}
 pub use Rattle.probe_wrapper.specs.Entries.{Stays}
 use Rattle.probe_wrapper.specs.declared.shuffled.Shuffled.{Shuffled}

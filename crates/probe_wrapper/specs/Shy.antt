@@ -5,11 +5,9 @@ use Rattle.std.specs.Ordering.{nat_cmp}
 use Rattle.std.specs.BTreeMap as tree
 use Rattle.std.specs.BTreeMap.{BTreeMap}
 use Rattle.med_value.specs.Datum.{Tuple, datum}
-use Rattle.fdw_api.specs.Scan.{Spec, RestrictionForm, spec_of}
+use Rattle.fdw_api.specs.Prelude.{Spec, RestrictionForm, spec_of, BoxTable, Scan, Ledger, BoxState, scan_of, whole_asks_rest, is_unpromised}
 use Rattle.fdw_api.specs.declared.scan.Agree.{Agree}
 use Rattle.fdw_api.specs.declared.scan.Agree.TheVariants.{Ignored, Hint, Exact}
-use Rattle.fdw_api.specs.State.{BoxTable, Scan, Ledger, BoxState, scan_of, whole_asks_rest}
-use Rattle.fdw_api.specs.Wishes.{is_unpromised}
 use Rattle.probe_wrapper.specs.LiveScans.{round, each_seen}
 use Rattle.probe_wrapper.specs.declared.shy.Shy.{Shy}
 use Rattle.probe_wrapper.specs.declared.shy.AskedScan.{AskedScan}

@@ -96,11 +96,7 @@ impl<W: Wrapper> Failing<W> {
 impl<W: Wrapper> Wrapper for Failing<W> {
     ghost use Rattle.std.specs.Prelude.{true, false, map, IfOk, IfErr, IsSome};
     ghost use Rattle.med_value.specs.Datum.{datum, tuple};
-    ghost use Rattle.fdw_api.specs.Scan.{spec_of};
-    ghost use Rattle.fdw_api.specs.Kinds.{column_of, option_form, Inserts, Updates, Deletes};
-    ghost use Rattle.fdw_api.specs.State.{scan_of};
-    ghost use Rattle.fdw_api.specs.Calls.{CanBind, Binds, RefusesBind, CanUnbind, Unbinds, CanBegin, Begins, RefusesBegin, IsOpen, Iterates, Breaks, CanRescan, Rescans, Ends};
-    ghost use Rattle.fdw_api.specs.Writes.{CanModify, Opens, RefusesModify, CanChange, Stages, RefusesChange, CanClose, Closes, RefusesClose};
+    ghost use Rattle.fdw_api.specs.Prelude.{spec_of, column_of, option_form, Inserts, Updates, Deletes, scan_of, CanBind, Binds, RefusesBind, CanUnbind, Unbinds, CanBegin, Begins, RefusesBegin, IsOpen, Iterates, Breaks, CanRescan, Rescans, Ends, CanModify, Opens, RefusesModify, CanChange, Stages, RefusesChange, CanClose, Closes, RefusesClose};
     ghost use Rattle.probe_wrapper.specs.Failing.{box_of, to_pass, CountsCall};
 
     ghost meaning = { λ b. failed (W.meaning b.inner) b.failure };
@@ -301,8 +297,7 @@ impl<W: Wrapper> Wrapper for Failing<W> {
 impl<W: Wrapper2> Wrapper2 for Failing<W> {
     ghost use Rattle.std.specs.Prelude.{map, IfOk, IfErr};
     ghost use Rattle.med_value.specs.Datum.{datum};
-    ghost use Rattle.fdw_api.specs.Calls.{Begins, RefusesBegin};
-    ghost use Rattle.fdw_api.specs.Wishes.{spec2_of, CanBegin2};
+    ghost use Rattle.fdw_api.specs.Prelude.{Begins, RefusesBegin, spec2_of, CanBegin2};
     ghost use Rattle.probe_wrapper.specs.Failing.{box_of, to_pass, CountsCall};
 
     fn plan2(

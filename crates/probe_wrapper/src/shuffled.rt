@@ -2,8 +2,7 @@
 ghost use Rattle.std.specs.Prelude.{◌≡◌, ◌<◌, ◌^◌, true, map, length, IfOk, IfErr, IfSome, IsSome, Some, None};
 ghost use Rattle.std.specs.Ordering.{nat_cmp};
 ghost use Rattle.std.specs.BTreeMap as tree;
-ghost use Rattle.fdw_api.specs.State.{IsIdle};
-ghost use Rattle.fdw_api.specs.Calls.{row_of, IsOpen, Iterates, Breaks};
+ghost use Rattle.fdw_api.specs.Prelude.{IsIdle, row_of, IsOpen, Iterates, Breaks};
 ghost use Rattle.probe_wrapper.specs.Shuffled.{turned, turns_of, reordered, box_of, is_unread};
 ghost use Rattle.probe_wrapper.specs.Shuffled.{IsRead, TakesFirst, TurnsRows, ReadsOut, StopsOut};
 
@@ -201,11 +200,7 @@ impl<W: Wrapper> Shuffled<W> {
 impl<W: Wrapper> Wrapper for Shuffled<W> {
     ghost use Rattle.std.specs.Prelude.{OnErr};
     ghost use Rattle.med_value.specs.Datum.{datum, tuple};
-    ghost use Rattle.fdw_api.specs.Scan.{spec_of};
-    ghost use Rattle.fdw_api.specs.Kinds.{column_of, option_form, Inserts, Updates, Deletes};
-    ghost use Rattle.fdw_api.specs.State.{scan_of};
-    ghost use Rattle.fdw_api.specs.Calls.{CanBind, Binds, RefusesBind, CanUnbind, Unbinds, CanBegin, Begins, RefusesBegin, CanRescan, Rescans, Ends};
-    ghost use Rattle.fdw_api.specs.Writes.{CanModify, Opens, RefusesModify, CanChange, Stages, RefusesChange, CanClose, Closes, RefusesClose};
+    ghost use Rattle.fdw_api.specs.Prelude.{spec_of, column_of, option_form, Inserts, Updates, Deletes, scan_of, CanBind, Binds, RefusesBind, CanUnbind, Unbinds, CanBegin, Begins, RefusesBegin, CanRescan, Rescans, Ends, CanModify, Opens, RefusesModify, CanChange, Stages, RefusesChange, CanClose, Closes, RefusesClose};
     ghost use Rattle.probe_wrapper.specs.Entries.{Stays, Forgets};
     ghost use Rattle.probe_wrapper.specs.Shuffled.{IsTurned};
 

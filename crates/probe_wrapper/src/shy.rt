@@ -3,8 +3,7 @@ ghost use Rattle.std.specs.Prelude.{◌≡◌, [], true, IfOk, IfErr, IfSome, Is
 ghost use Rattle.std.specs.Ordering.{nat_cmp};
 ghost use Rattle.std.specs.BTreeMap as tree;
 ghost use Rattle.med_value.specs.Datum.{datum};
-ghost use Rattle.fdw_api.specs.Scan.{spec_of, plain_spec};
-ghost use Rattle.fdw_api.specs.State.{IsIdle};
+ghost use Rattle.fdw_api.specs.Prelude.{spec_of, plain_spec, IsIdle};
 ghost use Rattle.probe_wrapper.specs.Shy.{shied, asked_form, asked_of, new_ask};
 
 use fdw_api::interface::{Counts, Fault, RowId, SourceRow, TableOption, Ticket, Wrapper};
@@ -89,8 +88,7 @@ impl<W: Wrapper> Shy<W> {
 
 impl<W: Wrapper> Wrapper for Shy<W> {
     ghost use Rattle.std.specs.Prelude.{OnErr};
-    ghost use Rattle.fdw_api.specs.State.{scan_of};
-    ghost use Rattle.fdw_api.specs.Calls.{CanBegin, Begins, RefusesBegin, CanRescan, Rescans, Breaks, Ends};
+    ghost use Rattle.fdw_api.specs.Prelude.{scan_of, CanBegin, Begins, RefusesBegin, CanRescan, Rescans, Breaks, Ends};
     ghost use Rattle.probe_wrapper.specs.Entries.{Stays, Forgets};
     ghost use Rattle.probe_wrapper.specs.Shy.{box_of, OffersNothing, Wants};
 

@@ -1,10 +1,9 @@
 //! A wrapper round a wrapper, that answers Hint and leaves out no row.
 ghost use Rattle.std.specs.Prelude.{◌≡◌, IfOk, IfErr, IsSome, None, map, length, replicate};
 ghost use Rattle.med_value.specs.Datum.{datum};
-ghost use Rattle.fdw_api.specs.Scan.{spec_of, spec_by, restriction_form};
+ghost use Rattle.fdw_api.specs.Prelude.{spec_of, spec_by, restriction_form, IsIdle};
 ghost use Rattle.fdw_api.specs.declared.scan.Agree.TheVariants.{Hint};
 ghost use Rattle.fdw_api.specs.declared.interface.Fault.TheVariants.{NoMemory};
-ghost use Rattle.fdw_api.specs.State.{IsIdle};
 ghost use Rattle.probe_wrapper.specs.Shy.{asked_of};
 ghost use Rattle.probe_wrapper.specs.Vague.{vague};
 
@@ -38,8 +37,7 @@ impl<W: Wrapper> Vague<W> {
 
 impl<W: Wrapper> Wrapper for Vague<W> {
     ghost use Rattle.std.specs.Prelude.{OnErr};
-    ghost use Rattle.fdw_api.specs.State.{table_of, scan_of};
-    ghost use Rattle.fdw_api.specs.Calls.{Allows, CanBegin, Begins, RefusesBegin, CanRescan, Rescans, Breaks, Ends};
+    ghost use Rattle.fdw_api.specs.Prelude.{table_of, scan_of, Allows, CanBegin, Begins, RefusesBegin, CanRescan, Rescans, Breaks, Ends};
     ghost use Rattle.probe_wrapper.specs.Entries.{Stays, Forgets};
     ghost use Rattle.probe_wrapper.specs.Shy.{OffersNothing, Wants};
     ghost use Rattle.probe_wrapper.specs.Vague.{box_of};

@@ -4,13 +4,9 @@ use Rattle.std.specs.Prelude.{option_map}
 use Rattle.med_value.specs.Datum.{Datum, Tuple}
 use Rattle.tri_expr.specs.declared.expr.Expr.{Expr}
 use Rattle.tri_expr.specs.declared.expr.Fault.{Fault}
-use Rattle.tri_expr.specs.Outcome.{over, value_of}
-use Rattle.tri_expr.specs.Tree.{tree}
-use Rattle.tri_expr.specs.Verdict.{is_in, faults_told, fault_list}
+use Rattle.tri_expr.specs.Prelude.{over, value_of, tree, is_in, faults_told, fault_list}
 use Rattle.tri_expr.proofs.Forms.{two}
-use Rattle.med_query.specs.Lists.{distinct, tuple_eq}
-use Rattle.med_query.specs.Form.{GroupForm, group_form, group_by}
-use Rattle.med_query.specs.Query.{Core, Tables, Grouping, Output, joined, kept, keeps, on_row, key_of, has_key, classes_by, classes_of, classes, has_class, kept_classes, having_of, arguments_of, class_faults, core_faults, output, output_eq, core_outputs}
+use Rattle.med_query.specs.Prelude.{distinct, tuple_eq, GroupForm, group_form, group_by, Core, Tables, Grouping, Output, joined, kept, keeps, on_row, key_of, has_key, classes_by, classes_of, classes, has_class, kept_classes, having_of, arguments_of, class_faults, core_faults, output, output_eq, core_outputs}
 use Rattle.med_query.specs.declared.select.SelectCore.{SelectCore}
 use Rattle.pushdown.specs.Joins.{Each}
 use Rattle.pushdown.specs.Columns.{tree_columns, columns_of, Pairwise, SameCells, AgreeOn}

@@ -3,17 +3,13 @@ use Rattle.std.proofs.Common.{◌≡◌, ℕ, zero, suc, ◌+◌, ◌-◌, ◌<�
 use Rattle.std.specs.Ordering.{ordering_reverse}
 use Rattle.std.specs.declared.cmp.Ordering.{Ordering}
 use Rattle.std.specs.declared.cmp.Ordering.TheVariants.{Less, Equal, Greater}
-use Rattle.med_value.specs.Datum.{Datum, NoValue, Whole, Chars, Logic, Tuple, cell}
-use Rattle.med_value.specs.Order.{is_missing, compares_true, holds, datum_cmp}
+use Rattle.std.proofs.lemmas.Option.{same_Some}
+use Rattle.med_value.specs.Prelude.{Datum, NoValue, Whole, Chars, Logic, Tuple, cell, is_missing, compares_true, holds, datum_cmp}
 use Rattle.med_value.proofs.OrderLemmas.{datum_cmp_total}
 use Rattle.med_value.specs.declared.order.Comparison.{Comparison}
 use Rattle.med_value.specs.declared.order.Comparison.TheVariants as comparisons
 use Rattle.med_value.specs.declared.operators.Status.TheVariants as statuses
-use Rattle.tri_expr.specs.Tree.{Tree, column, literal, compare, asks}
-use Rattle.tri_expr.specs.TreeParts.{bare}
-use Rattle.tri_expr.specs.Outcome.{Is, compared, tested}
-use Rattle.tri_expr.specs.Meaning.{OnClass, tree_meaning}
-use Rattle.tri_expr.specs.Verdict.{is_met}
+use Rattle.tri_expr.specs.Prelude.{Tree, column, literal, compare, asks, bare, Is, compared, tested, OnClass, tree_meaning, is_met}
 use Rattle.pushdown.specs.Tests.{TestOf, with_literal, with_earlier, asks_null, passes, mirrored, either, where_in, with_other, offered_test}
 use Rattle.pushdown.specs.Offers.{is_true}
 
@@ -88,14 +84,11 @@ pub record Within (base width at : ℕ) (t o : TestOf) : Type 0 where
   low : base ≤ at
   is : t ≡ o
 
-some_inj : {A : Type 0} (a b : A) → Some a ≡ Some b → a ≡ b
-some_inj a b q = cc
-
 within : (base width at : ℕ) (t o : TestOf) → where_in base width at t ≡ Some o → Within base width at t o
 within base width at t o e = split (nat_le base at) refl (nat_lt at (base + width)) e
   where
     split : (p : Bool) → nat_le base at ≡ p → (q : Bool) → cond (p && q) (Some t) None ≡ Some o → Within base width at t o
-    split true e true h = record { low = (grind (arith, e)); is = some_inj t o h }
+    split true e true h = record { low = (grind (arith, e)); is = same_Some t o h }
     split true e false h = absurd cc
     split false e q h = absurd cc
 
@@ -121,7 +114,7 @@ module _ (x r : Tuple) (base width : ℕ) (lx : length x ≡ base) where
           let k = other base width a op b t q in
           ap (λ (v : Datum). compares_true op v (cell (x ++ r) b)) (cell_right x r base a lx k.low)
           ∙ ap (λ (v : Datum). compares_true op (cell r (a - base)) v) (cell_left x r b (let l = k.early in omega (arith, l, lx)))
-          ∙ ap (λ (t : TestOf). passes t x r) (k.is ∙ some_inj t o h)
+          ∙ ap (λ (t : TestOf). passes t x r) (k.is ∙ same_Some t o h)
       split None q h =
           let k = other base width b (mirrored op) a o h in
           sym (mirror_is op (cell (x ++ r) a) (cell (x ++ r) b))

@@ -2,8 +2,7 @@
 use Rattle.std.proofs.Common.{◌≡◌, ℕ, zero, suc, ◌<◌, Bool, true, false, not, ◌&&◌, cond, List, [], ◌∷◌, ◌++◌, map, length, get_or, slice_index_or, All, Contains, IsPermutation, IsSorted, refl, sym, ap, ◌∙◌, subst, arith}
 use Rattle.std.specs.List.{filter}
 use Rattle.std.proofs.lemmas.List.Sorted.{IsPermutation-trans, IsPermutation-append_left, IsPermutation-filter_both}
-use Rattle.med_value.specs.Datum.{Tuple, cell}
-use Rattle.med_value.specs.Order.{compares_true}
+use Rattle.med_value.specs.Prelude.{Tuple, cell, compares_true}
 use Rattle.med_value.specs.declared.order.Comparison.TheVariants as comparisons
 use Rattle.fdw_api.specs.Scan.{RestrictionForm, KeyForm, row_cmp, first_of, Spec, TableRow, IsComing, given_row, meets, meets_all, meets_exact}
 use Rattle.fdw_api.specs.declared.scan.Agree.{Agree}

@@ -5,10 +5,7 @@ use Rattle.med_value.specs.Datum.{Datum, Whole, Tuple, cell}
 use Rattle.med_value.specs.declared.order.Comparison.TheVariants.{Equal as Same, AtMost, AtLeast}
 use Rattle.tri_expr.specs.declared.expr.Expr.{Expr}
 use Rattle.tri_expr.specs.Outcome.{Outcome, Is, compared, computed, negated, opposite as not_of, turned, settled, tested, strict, over, value_of}
-use Rattle.tri_expr.specs.Aggregate.{aggregated}
-use Rattle.tri_expr.specs.Meaning.{OnClass, argument, liked, has_cell, shared, tree_meaning, tree_meanings, means}
-use Rattle.tri_expr.specs.Tree.{Tree, column, parameter, literal, compare, compute, negate, all_of, some_of, opposite, asks, between, within, matches, parenthesised, count_rows, aggregate, Trees, none, part, tree}
-use Rattle.tri_expr.specs.Verdict.{is_in}
+use Rattle.tri_expr.specs.Prelude.{aggregated, OnClass, argument, liked, has_cell, shared, tree_meaning, tree_meanings, means, Tree, column, parameter, literal, compare, compute, negate, all_of, some_of, opposite, asks, between, within, matches, parenthesised, count_rows, aggregate, Trees, none, part, tree, is_in}
 use Rattle.tri_expr.proofs.Forms.{two, three}
 use Rattle.med_query.specs.Query.{senses, on_row, keeps}
 use Rattle.pushdown.specs.Joins.{Each}

@@ -1,10 +1,8 @@
 -- Conditions in two parts.
 use Rattle.std.proofs.Common.{◌≡◌, ℕ, suc, ◌+◌, Bool, true, false, ◌&&◌, List, [], ◌∷◌, ◌++◌, map, length, Option, Some, None, refl, sym, ap, ◌∙◌, arith}
 use Rattle.std.specs.Option.{is_some}
-use Rattle.med_value.specs.Datum.{Datum, Tuple, cell}
-use Rattle.med_value.specs.Order.{compares_true}
-use Rattle.tri_expr.specs.Tree.{Tree}
-use Rattle.tri_expr.specs.TreeParts.{bare}
+use Rattle.med_value.specs.Prelude.{Datum, Tuple, cell, compares_true}
+use Rattle.tri_expr.specs.Prelude.{Tree, bare}
 use Rattle.fdw_api.specs.Scan.{RestrictionForm, meets, meets_all, meets_exact, pick}
 use Rattle.fdw_api.specs.declared.scan.Agree.{Agree}
 use Rattle.fdw_api.specs.declared.scan.Agree.TheVariants.{Ignored, Hint, Exact}

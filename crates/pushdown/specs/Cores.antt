@@ -2,9 +2,7 @@
 use Rattle.std.specs.Prelude.{◌≡◌, ℕ, zero, suc, List, [], ◌∷◌, ◌++◌, map, length, Option, Some, None, option_map}
 use Rattle.med_value.specs.Datum.{Tuple}
 use Rattle.tri_expr.specs.declared.expr.Expr.{Expr}
-use Rattle.med_query.specs.Query.{Core, Query, Tables, Table, IsAnswer, joined, kept, core_faults, core_outputs, faults, outputs, senses}
-use Rattle.med_query.specs.Form.{GroupForm, group_form}
-use Rattle.med_query.specs.Select.{core_of}
+use Rattle.med_query.specs.Prelude.{Core, Query, Tables, Table, IsAnswer, joined, kept, core_faults, core_outputs, faults, outputs, senses, GroupForm, group_form, core_of}
 use Rattle.med_query.specs.declared.select.SelectCore.{SelectCore}
 use Rattle.pushdown.specs.Joins.{Each}
 use Rattle.pushdown.specs.Columns.{tree_columns, columns_of, AgreeOn}

@@ -1,7 +1,6 @@
 -- A scan that is answered from an index: the rows that have a value in a column, looked up by the value of a parameter.
 use Rattle.std.specs.Prelude.{◌≡◌, ℕ, List, [], map, filter, Contains, IsPermutation, IsSorted}
-use Rattle.med_value.specs.Datum.{Datum, Tuple, cell}
-use Rattle.med_value.specs.Order.{compares_true}
+use Rattle.med_value.specs.Prelude.{Datum, Tuple, cell, compares_true}
 use Rattle.med_value.specs.declared.order.Comparison.TheVariants as comparisons
 use Rattle.fdw_api.specs.Scan.{RestrictionForm, Compares, Slot, Spec, TableRow, IsComing, given_row, meets_exact, row_cmp, first_of}
 

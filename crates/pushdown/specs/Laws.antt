@@ -2,8 +2,7 @@
 use Rattle.std.specs.Prelude.{◌≡◌, ℕ, true, false, List, ◌++◌, length, map, Option, Some}
 use Rattle.std.specs.Option.{is_some}
 use Rattle.med_value.specs.Datum.{Tuple}
-use Rattle.tri_expr.specs.Tree.{Tree}
-use Rattle.tri_expr.specs.TreeParts.{bare}
+use Rattle.tri_expr.specs.Prelude.{Tree, bare}
 use Rattle.fdw_api.specs.Scan.{pick, meets_all, meets_exact}
 use Rattle.fdw_api.specs.declared.scan.Agree.{Agree}
 use Rattle.pushdown.specs.Tests.{TestOf, passes, offered_test}

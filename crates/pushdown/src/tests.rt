@@ -1,7 +1,6 @@
 //! Conditions that are tests of one column.
 ghost use Rattle.std.specs.Prelude.{◌≡◌, false, option_map};
-ghost use Rattle.tri_expr.specs.Tree.{tree};
-ghost use Rattle.tri_expr.specs.TreeParts.{is_parenthesised, bare};
+ghost use Rattle.tri_expr.specs.Prelude.{tree, is_parenthesised, bare};
 ghost use Rattle.pushdown.specs.Tests.{mirrored as spec_mirrored, in_entry as spec_in_entry, test_of};
 ghost use Rattle.pushdown.specs.Tests.{offered_test, with_other as spec_with_other};
 

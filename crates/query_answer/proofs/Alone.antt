@@ -6,9 +6,7 @@ use Rattle.std.specs.declared.cmp.Ordering.{Ordering}
 use Rattle.med_value.specs.Datum.{Tuple}
 use Rattle.tri_expr.specs.declared.expr.Fault.{Fault}
 use Rattle.tri_expr.specs.declared.expr.EvalFault.{EvalFault}
-use Rattle.med_query.specs.Query.{Tables, Output, IsTold, IsAnswer, core_faults, core_outputs, faults, joined_chains, keys_cmp, limited}
-use Rattle.med_query.specs.Form.{direction_of}
-use Rattle.med_query.specs.Select.{chains_of, core_of, query_of}
+use Rattle.med_query.specs.Prelude.{Tables, Output, IsTold, IsAnswer, core_faults, core_outputs, faults, joined_chains, keys_cmp, limited, direction_of, chains_of, core_of, query_of}
 use Rattle.med_query.specs.declared.select.Grouping.{Grouping}
 use Rattle.med_query.specs.declared.select.Select.{Select}
 use Rattle.med_query.specs.declared.select.SelectCore.{SelectCore}

@@ -9,10 +9,7 @@ use Rattle.tri_expr.specs.declared.expr.Fault.{Fault}
 use Rattle.tri_expr.specs.declared.expr.Fault.TheVariants.{Range, Zero}
 use Rattle.tri_expr.specs.declared.expr.EvalFault.{EvalFault}
 use Rattle.tri_expr.specs.declared.expr.EvalFault.TheVariants.{OutOfRange, ZeroDivisor, NoMemory}
-use Rattle.tri_expr.specs.Outcome.{Outcome, Is, Fails, Answers, over, value_of}
-use Rattle.tri_expr.specs.Meaning.{OnClass, tree_meaning, meaning, means}
-use Rattle.tri_expr.specs.Tree.{Tree, tree}
-use Rattle.tri_expr.specs.Verdict.{fault_list}
+use Rattle.tri_expr.specs.Prelude.{Outcome, Is, Fails, Answers, over, value_of, OnClass, tree_meaning, meaning, means, Tree, tree, fault_list}
 use Rattle.med_query.specs.Query.{IsTold, senses}
 use Rattle.med_query.proofs.Telling.{tells_more, fault_list-append}
 

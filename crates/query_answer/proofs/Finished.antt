@@ -7,19 +7,15 @@ use Rattle.std.proofs.lemmas.Grind.{flat_map-append}
 use Rattle.std.proofs.lemmas.List.Sorted.{IsPermutation-trans, IsPermutation-map}
 use Rattle.std.specs.Ordering.{on}
 use Rattle.med_value.specs.Datum.{Tuple}
-use Rattle.med_query.specs.Lists.{distinct}
+use Rattle.med_query.specs.Prelude.{distinct, Core, Tables, Output, output_eq, keys_cmp, limited, core_faults, core_outputs, outputs, outputs_all, IsAnswer, IsTooLarge, core_form, core_by, direction_of, core_of, query_of}
 use Rattle.tri_expr.specs.declared.expr.Fault.{Fault}
-use Rattle.med_query.specs.Query.{Core, Tables, Output, output_eq, keys_cmp, limited, core_faults, core_outputs, outputs, outputs_all, IsAnswer}
 use Rattle.med_query.specs.declared.select.SortDirection.{SortDirection}
 use Rattle.query_answer.specs.declared.staged.Staged.{Staged}
 use Rattle.query_answer.specs.declared.outputs.AnswerFault.{AnswerFault}
 use Rattle.query_answer.specs.declared.outputs.AnswerFault.TheVariants.{Evaluation, TooManyRows}
-use Rattle.med_query.specs.Causes.{IsTooLarge}
 use Rattle.query_answer.specs.Answering.{IsCoreFault, IsShownIn, IsShownFault, IsSmall, AreSmall}
 use Rattle.med_query.specs.declared.select.SelectCore.{SelectCore}
 use Rattle.med_query.specs.declared.select.Select.{Select}
-use Rattle.med_query.specs.Form.{core_form, core_by, direction_of}
-use Rattle.med_query.specs.Select.{core_of, query_of}
 use Rattle.query_answer.specs.Giving.{Gives, AllGive}
 use Rattle.query_answer.specs.Staging.{output_of, shown_by}
 use Rattle.query_answer.specs.Ordering.{staged_cmp, output_cmp, LeadsIn, StandsIn}

@@ -5,8 +5,7 @@ use Rattle.std.specs.List.{list_any}
 use Rattle.std.proofs.lemmas.List.Sorted.{IsPermutation-refl}
 use Rattle.indexmap.specs.IndexSet.{insert_key}
 use Rattle.med_value.specs.Datum.{Tuple}
-use Rattle.med_query.specs.Lists.{tuple_eq}
-use Rattle.med_query.specs.Query.{key_of, classes_by}
+use Rattle.med_query.specs.Prelude.{tuple_eq, key_of, classes_by}
 use Rattle.med_query.proofs.AnyOrder.{tuple_eq_only, tuple_eq_self}
 use Rattle.query_answer.specs.Classes.{classes_so_far, keys_so_far}
 use Rattle.query_answer.specs.Keys.{number_in, keys_after, numbers_after, put_at, gathered}

@@ -6,9 +6,7 @@ use Rattle.med_value.specs.Datum.{Tuple}
 use Rattle.tri_expr.specs.declared.expr.Expr.{Expr}
 use Rattle.tri_expr.specs.declared.expr.Fault.{Fault}
 use Rattle.tri_expr.specs.declared.expr.EvalFault.{EvalFault}
-use Rattle.tri_expr.specs.Outcome.{over}
-use Rattle.tri_expr.specs.Meaning.{OnClass}
-use Rattle.tri_expr.specs.Verdict.{is_in, faults_told}
+use Rattle.tri_expr.specs.Prelude.{over, OnClass, is_in, faults_told}
 use Rattle.med_query.specs.Laws.{IsSteady, IsSteadyCore, AllIgnoreOrder, AnswersIgnoreOrder}
 use Rattle.med_query.specs.Query.{Core, Query, Chain, Table, Tables, SameRows, Output, senses, keeps, joined_chains, classes_by, core_faults, core_outputs, outputs_all, alone, IsTold, output_faults, Grouping as Groups}
 use Rattle.query_answer.specs.Staging.{row_kept, where_told, arguments_told, class_output, class_staged, class_told}

@@ -2,8 +2,7 @@
 use Rattle.std.proofs.Common.{◌≡◌, ◌<◌, ◌≤◌, ◌+◌, ℕ, zero, suc, List, [], ◌∷◌, ◌++◌, map, set, get_or, length, refl, ap, arith, IsSorted}
 use Rattle.std.proofs.lemmas.List.{length-map, get_or-map}
 use Rattle.std.specs.declared.cmp.Ordering.{Ordering}
-use Rattle.med_query.specs.Lists.{distinct}
-use Rattle.med_query.specs.Query.{Output, output_eq}
+use Rattle.med_query.specs.Prelude.{distinct, Output, output_eq}
 use Rattle.med_query.proofs.AnyOrder.{output_eq_only, output_eq_self}
 use Rattle.query_answer.specs.Keys.{keys_after, put_at}
 use Rattle.query_answer.proofs.KeyNumbers.{all_keys}

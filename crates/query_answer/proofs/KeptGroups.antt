@@ -9,15 +9,12 @@ use borrow.Author.Tests.{ltb-true}
 use Rattle.std.proofs.lemmas.List.{length-append}
 use Rattle.std.proofs.lemmas.List.Sums.{length-filter, count_by-le-length}
 use Rattle.indexmap.specs.IndexSet.{insert_key}
-use Rattle.med_value.specs.Datum.{Tuple}
-use Rattle.med_value.specs.Limits.{group_limit}
-use Rattle.tri_expr.specs.Aggregate.{is_present}
-use Rattle.tri_expr.specs.Meaning.{OnClass, argument, meaning}
+use Rattle.med_value.specs.Prelude.{Tuple, group_limit}
+use Rattle.tri_expr.specs.Prelude.{is_present, OnClass, argument, meaning}
 use Rattle.tri_expr.specs.declared.expr.Expr.{Expr}
 use Rattle.tri_expr.specs.declared.expr.SetFunction.{SetFunction}
 use Rattle.tri_expr.specs.declared.expr.SetFunction.TheVariants.{Sum}
-use Rattle.med_query.specs.Lists.{tuple_eq}
-use Rattle.med_query.specs.Query.{key_of}
+use Rattle.med_query.specs.Prelude.{tuple_eq, key_of}
 use Rattle.query_answer.specs.declared.leaves.Leaf.{Leaf}
 use Rattle.query_answer.specs.declared.leaves.Leaf.TheVariants.{Column, Rows, Aggregate, Total}
 use Rattle.query_answer.specs.declared.running.Tally.{Tally}

@@ -4,14 +4,10 @@ use Rattle.std.proofs.lemmas.List.{map-append}
 use Rattle.std.proofs.lemmas.List.Elements.{filter-append}
 use Rattle.std.proofs.lemmas.List.Folds.{list_any-append}
 use Rattle.std.specs.List.{list_any, position_or_len}
+use Rattle.std.proofs.lemmas.Bool.{or_parts}
 use Rattle.indexmap.specs.IndexSet.{insert_key}
 use Rattle.med_query.specs.Lists.{distinct}
 use Rattle.query_answer.specs.Keys.{number_in, keys_after, numbers_after, put_at, gathered}
-
--- tests
-no_either : (p q : Bool) → (p || q) ≡ false → (p ≡ false) × (q ≡ false)
-no_either true q e = absurd cc
-no_either false q e = (refl, e)
 
 -- what a set of elements is, seen by a view
 pub any_seen : {X K : Type 0} (f : X → K) (test : K → Bool) (xs : List X) → list_any (λ x. test (f x)) xs ≡ list_any test (map f xs)
@@ -101,7 +97,7 @@ module _ {K : Type 0} (eq : K → K → Bool) (only : (x y : K) → eq x y ≡ t
   more_apart : (known : List K) (k : K) → list_any (eq k) known ≡ false → Apart known → Apart (known ++ k ∷ [])
   more_apart [] k e a = (refl, tt)
   more_apart (s ∷ ss) k e a =
-      let t = no_either (eq k s) (list_any (eq k) ss) e in
+      let t = or_parts (eq k s) (list_any (eq k) ss) e in
       (list_any-append (eq s) ss (k ∷ []) ∙ rw (a.0, turned s k, t.0) refl, more_apart ss k t.1 a.1)
 
   apart_by : (known : List K) (k : K) (b : Bool) → list_any (eq k) known ≡ b → Apart known → Apart (if b then known else known ++ k ∷ [])
@@ -121,7 +117,7 @@ module _ {K : Type 0} (eq : K → K → Bool) (only : (x y : K) → eq x y ≡ t
     others_stay : (ss : List K) (done : List X) (x : X) → list_any (eq (key x)) ss ≡ false → map (members done) ss ≡ map (members (done ++ x ∷ [])) ss
     others_stay [] done x e = refl
     others_stay (s ∷ ss) done x e =
-        let t = no_either (eq (key x) s) (list_any (eq (key x)) ss) e in
+        let t = or_parts (eq (key x) s) (list_any (eq (key x)) ss) e in
         ap (λ l. l ∷ map (members done) ss) (sym (one_more done x s false (turned s (key x) ∙ t.0))) ∙ ap (λ l. members (done ++ x ∷ []) s ∷ l) (others_stay ss done x t.1)
 
     there_by : (s : K) (ss : List K) (done : List X) (x : X) (b : Bool) → eq (key x) s ≡ b → list_any (eq s) ss ≡ false → (b || list_any (eq (key x)) ss) ≡ true
@@ -166,8 +162,8 @@ module _ {K : Type 0} (eq : K → K → Bool) (only : (x y : K) → eq x y ≡ t
     covers_by : (known : List K) (done : List X) (x : X) (b : Bool) → list_any (eq (key x)) known ≡ b → Covers known done → Covers (if b then known else known ++ key x ∷ []) (done ++ x ∷ [])
     covers_by known done x true e c = λ k n. covers_more known done x k (eq k (key x)) refl (other_key known x k (eq k (key x)) refl e n) (c k n)
     covers_by known done x false e c = λ k n.
-        let t = no_either (list_any (eq k) known) (eq k (key x) || false) (sym (list_any-append (eq k) known (key x ∷ [])) ∙ n) in
-        covers_more known done x k (eq k (key x)) refl (no_either (eq k (key x)) false t.1).0 (c k t.0)
+        let t = or_parts (list_any (eq k) known) (eq k (key x) || false) (sym (list_any-append (eq k) known (key x ∷ [])) ∙ n) in
+        covers_more known done x k (eq k (key x)) refl (or_parts (eq k (key x)) false t.1).0 (c k t.0)
 
     gathers : (xs : List X) (known : List K) (done : List X) → Apart known → Covers known done → gathered (map (members done) known) (numbers_after eq known (map key xs)) xs ≡ map (members (done ++ xs)) (keys_after eq known (map key xs))
     gathers [] known done a c = ap (λ l. map (members l) known) (sym (append-nil done))

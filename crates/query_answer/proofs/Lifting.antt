@@ -12,10 +12,8 @@ use Rattle.tri_expr.specs.declared.expr.Expr.{Expr}
 use Rattle.tri_expr.specs.declared.expr.Expr.TheOpen as layer
 use Rattle.tri_expr.specs.declared.expr.Expr.TheVariants as form
 use Rattle.tri_expr.specs.declared.expr.SetFunction.{SetFunction}
-use Rattle.tri_expr.specs.Aggregate.{aggregated}
-use Rattle.tri_expr.specs.Outcome.{Outcome, Is, compared, computed, turned, settled, strict, over}
+use Rattle.tri_expr.specs.Prelude.{aggregated, Outcome, Is, compared, computed, turned, settled, strict, over, Tree, tree}
 use Rattle.tri_expr.specs.Meaning.{OnClass, liked, meaning, means as tree_means, parts_mean, tree_meaning}
-use Rattle.tri_expr.specs.Tree.{Tree, tree}
 use Rattle.tri_expr.proofs.Forms.{Part, Parts, means, two, three}
 use Rattle.med_query.specs.Query.{senses}
 use Rattle.query_answer.specs.declared.leaves.Leaf.{Leaf}

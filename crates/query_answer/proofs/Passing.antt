@@ -3,20 +3,14 @@ use Rattle.std.proofs.Common.{◌≡◌, ◌<◌, ◌-◌, ℕ, Bool, true, fals
 use Rattle.std.specs.List.{list_all}
 use Rattle.std.specs.List.Sorted.{IsSortedBy}
 use Rattle.std.specs.Cmp.{IsStrictWeakOrder, IsTotalOrder}
-use Rattle.std.proofs.lemmas.Bool.{and_parts}
+use Rattle.std.proofs.lemmas.Bool.{and_parts, not-true}
 use Rattle.std.proofs.lemmas.List.{get_or-map, length-map, take_all}
 use Rattle.std.proofs.lemmas.List.Sorted.{ranks_by}
-use Rattle.med_value.specs.Datum.{Tuple, datum}
+use Rattle.med_value.specs.Prelude.{Tuple, datum, key_cmp}
 use Rattle.med_value.specs.declared.value.Value.{Value}
-use Rattle.med_value.specs.Order.{key_cmp}
 use Rattle.tri_expr.specs.declared.expr.Expr.{Expr}
-use Rattle.tri_expr.specs.Laws.{HasValue}
-use Rattle.tri_expr.specs.Meaning.{meaning}
-use Rattle.tri_expr.specs.TreeParts.{is_risky}
-use Rattle.tri_expr.specs.Outcome.{Outcome, Is, Fails, over, value_of}
-use Rattle.tri_expr.specs.Verdict.{fault_list, is_in}
-use Rattle.med_query.specs.Form.{direction_of}
-use Rattle.med_query.specs.Query.{Output, keys_cmp, on_row, senses}
+use Rattle.tri_expr.specs.Prelude.{HasValue, meaning, is_risky, Outcome, Is, Fails, over, value_of, fault_list, is_in}
+use Rattle.med_query.specs.Prelude.{direction_of, Output, keys_cmp, on_row, senses}
 use Rattle.med_query.specs.declared.select.Select.{Select}
 use Rattle.med_query.specs.declared.select.SelectCore.{SelectCore}
 use Rattle.med_query.specs.declared.select.SortDirection.{SortDirection}
@@ -31,17 +25,13 @@ pub no_fault_first : (o : Outcome) (os : List Outcome) → HasValue o → fault_
 no_fault_first (Is v) os h e = e
 no_fault_first (Fails c) os h e = absurd h
 
-not_true : (b : Bool) → not b ≡ true → b ≡ false
-not_true true e = absurd cc
-not_true false e = refl
-
 -- expressions that are not risky show no fault
 pub safe_parts : ((params : Tuple) (e : Expr) (class : List Tuple) → is_risky e ≡ false → HasValue (meaning params e class)) → (parts : List Expr) (class : List Tuple) → list_all (λ e. not (is_risky e)) parts ≡ true
     → fault_list (over (senses [] parts) class) ≡ []
 safe_parts law [] class h = refl
 safe_parts law (p ∷ ps) class h =
     let q = and_parts (not (is_risky p)) (list_all (λ e. not (is_risky e)) ps) h in
-    no_fault_first (meaning [] p class) (over (senses [] ps) class) (law [] p class (not_true (is_risky p) q.0)) (safe_parts law ps class q.1)
+    no_fault_first (meaning [] p class) (over (senses [] ps) class) (law [] p class (not-true (is_risky p) q.0)) (safe_parts law ps class q.1)
 
 -- a row that WHERE keeps, and that does not come before the last of those in front
 pub passed_behind : ((desc nulls_first : Bool) → IsTotalOrder (key_cmp desc nulls_first)) → (select : Select) (s : SelectCore) (outs : List Output) (front : ℕ) (r : Tuple) (d : Output)

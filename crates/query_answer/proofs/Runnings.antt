@@ -4,15 +4,11 @@ use Rattle.std.proofs.Math.IntN.{+ℤ_comm, +ℤ_idr}
 use Rattle.std.proofs.lemmas.List.{take_more, take_more_set, get_or-drop, drop-set-lt, drop_more}
 use Rattle.std.proofs.lemmas.List.Elements.{All-get_or}
 use Rattle.std.proofs.lemmas.Int.{ints}
-use Rattle.med_value.specs.Datum.{Datum, NoValue, Whole, Chars, Logic, Tuple, datum}
-use Rattle.med_value.specs.Order.{is_missing}
+use Rattle.med_value.specs.Prelude.{Datum, NoValue, Whole, Chars, Logic, Tuple, datum, is_missing}
 use Rattle.tri_expr.specs.declared.expr.Expr.{Expr}
 use Rattle.tri_expr.specs.declared.expr.SetFunction.{SetFunction}
 use Rattle.tri_expr.specs.declared.expr.SetFunction.TheVariants.{Count, Sum, Min, Max}
-use Rattle.tri_expr.specs.Aggregate.{is_present, whole_of, total, lesser, greater}
-use Rattle.tri_expr.specs.Meaning.{argument, meaning, OnClass}
-use Rattle.tri_expr.specs.Outcome.{value_of}
-use Rattle.tri_expr.specs.Tally.{better_of, magnitude}
+use Rattle.tri_expr.specs.Prelude.{is_present, whole_of, total, lesser, greater, argument, meaning, OnClass, value_of, better_of, magnitude}
 use Rattle.tri_expr.proofs.Shuffled.{same, filtered, as_long}
 use Rattle.tri_expr.proofs.Tallies.{total_shuffled, to_front, best_more, count_one}
 use Rattle.query_answer.specs.Leaves.{argument_values, leaf_beyond, leaf_value, leaf_values}

@@ -6,9 +6,7 @@ use Rattle.std.proofs.lemmas.List.Elements.{Contains-append_left, Contains-appen
 use Rattle.med_value.specs.Datum.{Tuple}
 use Rattle.tri_expr.specs.declared.expr.Expr.{Expr}
 use Rattle.tri_expr.specs.declared.expr.Fault.{Fault}
-use Rattle.tri_expr.specs.Outcome.{Outcome, over, value_of}
-use Rattle.tri_expr.specs.Meaning.{OnClass}
-use Rattle.tri_expr.specs.Verdict.{is_in, faults_told, fault_list}
+use Rattle.tri_expr.specs.Prelude.{Outcome, over, value_of, OnClass, is_in, faults_told, fault_list}
 use Rattle.med_query.specs.Query.{Output, senses}
 use Rattle.query_answer.specs.declared.leaves.Leaf.{Leaf}
 use Rattle.query_answer.specs.declared.running.Running.{Running}

@@ -4,9 +4,7 @@ use Rattle.std.proofs.lemmas.List.Sorted.{IsPermutation-refl}
 use Rattle.med_value.specs.Datum.{Tuple}
 use Rattle.tri_expr.specs.declared.expr.Fault.{Fault}
 use Rattle.tri_expr.specs.declared.expr.EvalFault.{EvalFault}
-use Rattle.tri_expr.specs.Outcome.{over}
-use Rattle.tri_expr.specs.Meaning.{OnClass}
-use Rattle.tri_expr.specs.Verdict.{faults_told, fault_list}
+use Rattle.tri_expr.specs.Prelude.{over, OnClass, faults_told, fault_list}
 use Rattle.med_query.specs.Query.{Core, Chain, Tables, Output, on_row, keeps, joined_chains, classes, kept_classes, class_faults, core_faults, output, outputs_all, has_class, TellsFault, output_faults, Grouping as Groups}
 use Rattle.query_answer.specs.Staging.{where_told, row_staged, row_told_all}
 use Rattle.med_query.proofs.Telling.{tells_more}

@@ -2,8 +2,7 @@
 use Rattle.std.proofs.Common.{◌≡◌, List, [], ◌∷◌, ◌++◌, map, length, get_or, refl, sym, ap, ◌∙◌, arith, append_assoc, append-nil, subst}
 use Rattle.std.proofs.Math.Seq.{get_or-append_seam}
 use Rattle.std.proofs.lemmas.List.{length-append, map-append}
-use Rattle.med_query.specs.Query.{Output, Tables, joined_chains}
-use Rattle.med_query.specs.Select.{chains_of, core_of}
+use Rattle.med_query.specs.Prelude.{Output, Tables, joined_chains, chains_of, core_of}
 use Rattle.med_query.specs.declared.select.Select.{Select}
 use Rattle.med_query.specs.declared.select.SelectCore.{SelectCore}
 use Rattle.query_answer.specs.declared.gathering.Gathering.{Gathering}

@@ -2,8 +2,7 @@
 use Rattle.std.specs.Prelude.{◌≤◌, List, length, flat_map, All, IsSome, Result, Ok, Err}
 use Rattle.std.specs.List.{Any}
 use Rattle.med_value.specs.Limits.{group_limit}
-use Rattle.med_query.specs.Query.{Core, Query, Tables, IsTold, core_faults, kept}
-use Rattle.med_query.specs.Causes.{IsTooLarge}
+use Rattle.med_query.specs.Prelude.{Core, Query, Tables, IsTold, core_faults, kept, IsTooLarge}
 use Rattle.query_answer.specs.declared.outputs.AnswerFault.{AnswerFault}
 use Rattle.query_answer.specs.declared.outputs.AnswerFault.TheVariants.{Evaluation, TooManyRows}
 

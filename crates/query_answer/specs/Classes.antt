@@ -1,9 +1,7 @@
 -- The groups of rows, and what is kept of them.
 use Rattle.std.specs.Prelude.{◌≡◌, ◌≤◌, ◌<◌, ℕ, List, [], ◌∷◌, All, map, length}
-use Rattle.med_value.specs.Datum.{Tuple}
-use Rattle.med_value.specs.Limits.{group_limit}
-use Rattle.med_query.specs.Lists.{tuple_eq}
-use Rattle.med_query.specs.Query.{key_of}
+use Rattle.med_value.specs.Prelude.{Tuple, group_limit}
+use Rattle.med_query.specs.Prelude.{tuple_eq, key_of}
 use Rattle.query_answer.specs.Keys.{gathered, keys_after, numbers_after}
 use Rattle.query_answer.specs.Running.{ClassesRun, HasRoom, IsSmall}
 use Rattle.query_answer.specs.declared.leaves.Leaf.{Leaf}

@@ -2,8 +2,7 @@
 use Rattle.std.specs.Prelude.{◌≡◌, ℕ, Bool, if◌then◌else◌, List, map, drop, Option, IsPermutation, IsSorted}
 use Rattle.std.specs.Ordering.{on}
 use Rattle.med_value.specs.Datum.{Tuple}
-use Rattle.med_query.specs.Lists.{distinct}
-use Rattle.med_query.specs.Query.{Direction, Output, output_eq, keys_cmp, limited}
+use Rattle.med_query.specs.Prelude.{distinct, Direction, Output, output_eq, keys_cmp, limited}
 
 abbrev pub made_unique : Bool → List Output → List Output
 made_unique unique outs = if unique then distinct output_eq outs else outs

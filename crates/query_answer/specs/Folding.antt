@@ -1,8 +1,7 @@
 -- The groups of a core while its kept rows come, one after another.
 pub use Rattle.query_answer.specs.Classes.{classes_so_far, keys_so_far}
 use Rattle.std.specs.Prelude.{◌≡◌, ◌≤◌, ◌<◌, List, map, length}
-use Rattle.med_value.specs.Datum.{Tuple}
-use Rattle.med_value.specs.Limits.{group_limit}
+use Rattle.med_value.specs.Prelude.{Tuple, group_limit}
 use Rattle.tri_expr.specs.declared.expr.Expr.{Expr}
 use Rattle.query_answer.specs.Keys.{key_in}
 use Rattle.query_answer.specs.Leaves.{AllLift}

@@ -3,9 +3,7 @@
 use Rattle.std.specs.Prelude.{◌≡◌, ℤ, pos, negsuc, ◌==◌, ◌^◌, ◌-◌, nat_lt, if◌then◌else◌, List, [], ◌∷◌, ◌++◌, flat_map, length}
 use Rattle.med_value.specs.Datum.{Datum, NoValue, Whole, Tuple}
 use Rattle.tri_expr.specs.declared.expr.Expr.{Expr}
-use Rattle.tri_expr.specs.Outcome.{over, size_of, value_of}
-use Rattle.tri_expr.specs.Aggregate.{aggregated, number, total}
-use Rattle.tri_expr.specs.Meaning.{argument, meaning, shared}
+use Rattle.tri_expr.specs.Prelude.{over, size_of, value_of, aggregated, number, total, argument, meaning, shared}
 use Rattle.med_query.specs.Query.{senses}
 use Rattle.query_answer.specs.declared.leaves.Leaf.{Leaf}
 use Rattle.query_answer.specs.declared.leaves.Leaf.TheVariants.{Column, Rows, Aggregate, Total}

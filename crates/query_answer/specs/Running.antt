@@ -5,9 +5,7 @@ use Rattle.med_value.specs.Datum.{Datum, Tuple, cell, datum}
 use Rattle.med_value.specs.declared.value.Value.{Value}
 use Rattle.tri_expr.specs.declared.expr.SetFunction.{SetFunction}
 use Rattle.tri_expr.specs.declared.expr.SetFunction.TheVariants.{Sum}
-use Rattle.tri_expr.specs.Aggregate.{is_present, total}
-use Rattle.tri_expr.specs.Meaning.{has_cell}
-use Rattle.tri_expr.specs.Tally.{best_of, magnitude}
+use Rattle.tri_expr.specs.Prelude.{is_present, total, has_cell, best_of, magnitude}
 use Rattle.query_answer.specs.Leaves.{argument_values}
 use Rattle.query_answer.specs.declared.leaves.Leaf.{Leaf}
 use Rattle.query_answer.specs.declared.leaves.Leaf.TheVariants.{Column, Rows, Aggregate, Total}

@@ -3,9 +3,7 @@ use Rattle.std.specs.Prelude.{◌≡◌, if◌then◌else◌, List, [], ◌∷�
 use Rattle.med_value.specs.Datum.{Tuple, datum}
 use Rattle.query_answer.specs.declared.staged.Staged.{Staged}
 use Rattle.tri_expr.specs.declared.expr.Fault.{Fault}
-use Rattle.tri_expr.specs.Outcome.{over, value_of}
-use Rattle.tri_expr.specs.Meaning.{OnClass}
-use Rattle.tri_expr.specs.Verdict.{is_in, faults_told, fault_list}
+use Rattle.tri_expr.specs.Prelude.{over, value_of, OnClass, is_in, faults_told, fault_list}
 use Rattle.med_query.specs.declared.select.SelectCore.{SelectCore}
 use Rattle.med_query.specs.Query.{Output, keeps, on_row, senses, output_faults}
 

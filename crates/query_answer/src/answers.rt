@@ -1,9 +1,7 @@
 //! The answer of a query over its gathered rows.
 ghost use Rattle.std.specs.Prelude.{◌≡◌, ◌++◌, ◌∷◌, [], IfOk, List, None, drop, map};
 ghost use Rattle.med_value.specs.Datum.{tuple};
-ghost use Rattle.med_query.specs.Query.{IsAnswer, Output, Tables, TellsFault, faults, joined_chains, limited};
-ghost use Rattle.med_query.specs.Form.{direction_of};
-ghost use Rattle.med_query.specs.Select.{chains_of, core_of, query_of};
+ghost use Rattle.med_query.specs.Prelude.{IsAnswer, Output, Tables, TellsFault, faults, joined_chains, limited, direction_of, chains_of, core_of, query_of};
 ghost use Rattle.query_answer.specs.Gathering.{AreGathered};
 ghost use Rattle.query_answer.specs.Staging.{output_of, outputs_in};
 ghost use Rattle.query_answer.specs.Giving.{AllGive};

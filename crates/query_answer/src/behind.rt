@@ -2,14 +2,10 @@
 ghost use Rattle.std.specs.Prelude.{◌≡◌, ◌∷◌, [], IfSome, List, false, map, not, true};
 ghost use Rattle.std.specs.List.{list_all};
 ghost use Rattle.std.specs.Ordering.{is_lt};
-ghost use Rattle.med_value.specs.Datum.{datum, tuple, Tuple};
-ghost use Rattle.med_value.specs.Order.{key_cmp};
-ghost use Rattle.tri_expr.specs.Meaning.{meaning};
-ghost use Rattle.tri_expr.specs.Outcome.{over, value_of};
+ghost use Rattle.med_value.specs.Prelude.{datum, tuple, Tuple, key_cmp};
+ghost use Rattle.tri_expr.specs.Prelude.{meaning, over, value_of, fault_list};
 ghost use Rattle.tri_expr.specs.TreeParts.{is_risky as spec_is_risky};
-ghost use Rattle.tri_expr.specs.Verdict.{fault_list};
-ghost use Rattle.med_query.specs.Form.{direction_of};
-ghost use Rattle.med_query.specs.Query.{keys_cmp, on_row, senses};
+ghost use Rattle.med_query.specs.Prelude.{direction_of, keys_cmp, on_row, senses};
 ghost use Rattle.query_answer.specs.Staging.{HasNoFault};
 
 use crate::ordering::compare_key;

@@ -1,7 +1,6 @@
 //! The groups of a core, of which only what its expressions ask of them is kept while rows come and go.
 ghost use Rattle.std.specs.Prelude.{◌≡◌, ◌++◌, ◌∷◌, ◌<◌, ◌≤◌, ◌^◌, ℕ, true, [], All, IfOk, List, flat_map, length, map};
-ghost use Rattle.med_value.specs.Datum.{tuple, Tuple};
-ghost use Rattle.med_value.specs.Limits.{group_limit};
+ghost use Rattle.med_value.specs.Prelude.{tuple, Tuple, group_limit};
 ghost use Rattle.query_answer.specs.Classes.{AreReady, KeepsFew, KeepsGroups, KeepsSome};
 ghost use Rattle.query_answer.specs.Keys.{key_in, put_at};
 ghost use Rattle.query_answer.specs.Running.{ClassesRun, runnings_in};

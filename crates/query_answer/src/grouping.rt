@@ -1,8 +1,7 @@
 //! DISTINCT: of outputs that are equal the first is kept.
 ghost use Rattle.std.specs.Prelude.{◌≡◌, IfOk, IsPermutation, map};
 ghost use Rattle.indexmap.specs.IndexSet.{insert_key};
-ghost use Rattle.med_query.specs.Lists.{distinct};
-ghost use Rattle.med_query.specs.Query.{output_eq};
+ghost use Rattle.med_query.specs.Prelude.{distinct, output_eq};
 ghost use Rattle.query_answer.specs.Finishing.{made_unique};
 ghost use Rattle.query_answer.specs.Keys.{output_in};
 ghost use Rattle.query_answer.specs.Staging.{output_of};

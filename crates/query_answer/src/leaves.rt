@@ -1,9 +1,7 @@
 //! The leaves of an expression over a class of rows: what it looks at in the rows, which can be kept while rows come and go.
 ghost use Rattle.std.specs.Prelude.{◌≡◌, ◌<◌, ◌+◌, ◌^◌, ◌++◌, ◌∷◌, [], IfOk, List};
 ghost use Rattle.med_value.specs.Datum.{Tuple, cell};
-ghost use Rattle.tri_expr.specs.Aggregate.{aggregated};
-ghost use Rattle.tri_expr.specs.Outcome.{Is};
-ghost use Rattle.tri_expr.specs.Meaning.{meaning};
+ghost use Rattle.tri_expr.specs.Prelude.{aggregated, Is, meaning};
 ghost use Rattle.tri_expr.specs.declared.expr.SetFunction.TheVariants.{Sum};
 ghost use Rattle.query_answer.specs.declared.leaves.Leaf.{Leaf};
 ghost use Rattle.query_answer.specs.Leaves.{argument_values, leaf_beyond, leaf_value, leaf_values, AllLift, AreMore, Lifts};

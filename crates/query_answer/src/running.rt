@@ -3,10 +3,7 @@ ghost use Rattle.std.specs.Prelude.{◌≡◌, ◌≤◌, ◌*◌, ◌^◌, ◌=
 ghost use Rattle.std.specs.Prelude.{◌++◌, ◌∷◌, [], IfOk, List, map, length, All};
 ghost use Rattle.med_value.specs.Datum.{cell, datum, tuple, Datum, NoValue, Whole, Tuple};
 ghost use Rattle.tri_expr.specs.declared.expr.SetFunction.TheVariants.{Sum};
-ghost use Rattle.tri_expr.specs.Aggregate.{whole_of};
-ghost use Rattle.tri_expr.specs.Meaning.{meaning, shared};
-ghost use Rattle.tri_expr.specs.Outcome.{value_of};
-ghost use Rattle.tri_expr.specs.Tally.{better_of, finished, magnitude};
+ghost use Rattle.tri_expr.specs.Prelude.{whole_of, meaning, shared, value_of, better_of, finished, magnitude};
 ghost use Rattle.query_answer.specs.Leaves.{leaf_beyond, leaf_value, leaf_values, number_beyond, number_within};
 ghost use Rattle.query_answer.specs.Running.{AllRun, HasRoom, IsSmall, Runs, SharesSoFar, TalliesIn, TalliesSoFar, counted};
 

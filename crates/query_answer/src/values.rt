@@ -1,9 +1,7 @@
 //! The values of expressions over a class of rows.
 ghost use Rattle.std.specs.Prelude.{◌≡◌, ◌∷◌, ◌++◌, [], IfOk, map};
 ghost use Rattle.med_value.specs.Datum.{cell as spec_cell, datum, tuple};
-ghost use Rattle.tri_expr.specs.Meaning.{meaning};
-ghost use Rattle.tri_expr.specs.Outcome.{Is, over, value_of};
-ghost use Rattle.tri_expr.specs.Verdict.{fault_list};
+ghost use Rattle.tri_expr.specs.Prelude.{meaning, Is, over, value_of, fault_list};
 ghost use Rattle.med_query.specs.Query.{TellsFault, senses};
 
 use crate::row_keys::cell_copy;

@@ -3,13 +3,10 @@ use Rattle.std.proofs.Common.{◌≡◌, ℕ, zero, suc, ◌+◌, ◌≤◌, inl
 use Rattle.std.specs.Prelude.{Ok, Option, Some, None}
 use Rattle.query_reader.specs.declared.query_source.JoinWay.{JoinWay}
 use Rattle.query_reader.specs.declared.query_source.JoinWay.TheVariants as ways
-use Rattle.med_syntax.specs.Tree.{Name}
-use Rattle.med_syntax.specs.Terminal.{Terminal}
+use Rattle.med_syntax.specs.Prelude.{Name, Terminal, ExprTree, column_spelling, height, spelling, EntryTree, JoinTree, inner_join, left_join, cross_join, ChainTree, GroupTree, KeyTree, LimitTree, no_limit, rows, join_height, chain_height, key_height, highest_of, keywords, SpellsEntry, SpellsOn, SpellsJoin, SpellsJoins, SpellsChain, SpellsGroup, SpellsFlag, SpellsNulls, SpellsKey, SpellsLimit, SpellsOffset, SpellsLimits}
+use Rattle.med_syntax.specs.ExprReading.{below}
+use Rattle.med_syntax.specs.ExprReading.{◌>>=◌}
 use Rattle.med_syntax.specs.Terminal as t
-use Rattle.med_syntax.specs.ExprTree.{ExprTree, column_spelling, height, spelling}
-use Rattle.med_syntax.specs.ExprReading.{◌>>=◌, below}
-use Rattle.med_syntax.specs.QueryTree.{EntryTree, JoinTree, inner_join, left_join, cross_join, ChainTree, GroupTree, KeyTree, LimitTree, no_limit, rows, join_height, chain_height, key_height, highest_of}
-use Rattle.med_syntax.specs.QueryGrammar.{keywords, SpellsEntry, SpellsOn, SpellsJoin, SpellsJoins, SpellsChain, SpellsGroup, SpellsFlag, SpellsNulls, SpellsKey, SpellsLimit, SpellsOffset, SpellsLimits}
 use Rattle.query_reader.specs.QueryReading.{behind_word, flag_of, entry_of, join_words, on_of, join_of, joins_of, all_joins_of, source_of, group_of, nulls_of, key_after, key_of, limit_at, limit_of, behind_unit, offset_of, limit_after, limits_of}
 use Rattle.med_syntax.proofs.ExprChains.{low_or_high}
 use Rattle.med_syntax.proofs.ExprComplete.{completes}

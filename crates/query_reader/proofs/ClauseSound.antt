@@ -5,12 +5,10 @@ use Rattle.med_syntax.specs.declared.refusal.Refusal.{Refusal}
 use Rattle.med_syntax.specs.declared.refusal.Refusal.TheVariants.{Syntax}
 use Rattle.query_reader.specs.declared.query_source.JoinWay.{JoinWay}
 use Rattle.query_reader.specs.declared.query_source.JoinWay.TheVariants as ways
-use Rattle.med_syntax.specs.Terminal.{Terminal}
+use Rattle.med_syntax.specs.Prelude.{Terminal, ExprTree, height, choose, EntryTree, JoinTree, inner_join, left_join, cross_join, KeyTree, LimitTree, no_limit, rows, join_height, chain_height, key_height, highest_of, keywords, SpellsEntry, SpellsOn, SpellsJoin, SpellsJoins, SpellsChain, SpellsGroup, SpellsNulls, SpellsKey, SpellsLimit, SpellsOffset, SpellsLimits, SpellsExpr}
+use Rattle.med_syntax.specs.ExprReading.{below}
+use Rattle.med_syntax.specs.ExprReading.{◌>>=◌}
 use Rattle.med_syntax.specs.Terminal as t
-use Rattle.med_syntax.specs.ExprTree.{ExprTree, height}
-use Rattle.med_syntax.specs.ExprReading.{◌>>=◌, choose, below}
-use Rattle.med_syntax.specs.QueryTree.{EntryTree, JoinTree, inner_join, left_join, cross_join, KeyTree, LimitTree, no_limit, rows, join_height, chain_height, key_height, highest_of}
-use Rattle.med_syntax.specs.QueryGrammar.{keywords, SpellsEntry, SpellsOn, SpellsJoin, SpellsJoins, SpellsChain, SpellsGroup, SpellsNulls, SpellsKey, SpellsLimit, SpellsOffset, SpellsLimits, SpellsExpr}
 use Rattle.query_reader.specs.QueryReading.{behind_word, behind_words, flag_of, entry_of, join_words, on_of, join_of, joins_of, all_joins_of, source_of, group_of, nulls_of, key_after, key_of, number_of, limit_at, limit_of, behind_unit, offset_of, limit_after, limits_of}
 use Rattle.med_syntax.proofs.ExprSound.{bind_ok, ok_same}
 use Rattle.query_reader.proofs.PartSound.{FoundPart, Sound, found_as, flat, none_some, some_is, err_ok, word_is, words_are, entry_sound, expr_sound, FoundFlag, flag_sound}

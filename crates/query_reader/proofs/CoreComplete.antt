@@ -4,13 +4,10 @@ use Rattle.std.specs.Prelude.{nat_le, max, Result, Ok, Err, Option, Some, None}
 use Rattle.med_syntax.specs.declared.refusal.Refusal.{Refusal}
 use Rattle.med_syntax.specs.declared.refusal.Refusal.TheVariants.{Syntax, TooHigh}
 use Rattle.med_syntax.specs.declared.symbols.Separator.TheVariants.{Comma}
-use Rattle.med_syntax.specs.Terminal.{Terminal}
-use Rattle.med_syntax.specs.Terminal as t
-use Rattle.med_syntax.specs.ExprTree.{ExprTree, height, Fits, spelling}
+use Rattle.med_syntax.specs.Prelude.{Terminal, ExprTree, height, Fits, spelling, behind_of, keywords, SpellsList, SpellsItem, SpellsChain, SpellsGroup, SpellsFlag, SpellsPerhaps, SpellsListed, SpellsExpr, SpellsCore, SpellsUnions}
 use Rattle.med_syntax.specs.ExprReading.{below, chain_of, is_of, compare_of, range_of, left_of}
-use Rattle.med_syntax.specs.ExprSteps.{behind_of}
+use Rattle.med_syntax.specs.Terminal as t
 use Rattle.med_syntax.specs.QueryTree.{ItemTree, all, all_of, value, CoreTree, item_height, chain_height, highest_of, condition_height, core_height}
-use Rattle.med_syntax.specs.QueryGrammar.{keywords, SpellsList, SpellsItem, SpellsChain, SpellsGroup, SpellsFlag, SpellsPerhaps, SpellsListed, SpellsExpr, SpellsCore, SpellsUnions}
 use Rattle.query_reader.specs.QueryReading.{Parser, seq, behind_word, behind_words, flag_of, item_of, source_of, group_of, quantified_of, selected_of, core_of, unions_of, all_unions_of}
 use Rattle.med_syntax.proofs.ExprChains.{reach}
 use Rattle.med_syntax.proofs.ExprComplete.{completes}

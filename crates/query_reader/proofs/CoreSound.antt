@@ -3,11 +3,10 @@ use Rattle.std.proofs.Common.{◌≡◌, ℕ, zero, suc, Bool, List, [], ◌∷�
 use Rattle.std.specs.Prelude.{Result, Ok, Err, Option, Some, None}
 use Rattle.med_syntax.specs.declared.refusal.Refusal.{Refusal}
 use Rattle.med_syntax.specs.declared.refusal.Refusal.TheVariants.{Syntax}
-use Rattle.med_syntax.specs.Terminal.{Terminal}
+use Rattle.med_syntax.specs.Prelude.{Terminal, choose, CoreTree, item_height, chain_height, highest_of, condition_height, core_height, keywords, SpellsList, SpellsItem, SpellsChain, SpellsGroup, SpellsPerhaps, SpellsListed, SpellsExpr, SpellsCore, SpellsUnions}
+use Rattle.med_syntax.specs.ExprReading.{below}
+use Rattle.med_syntax.specs.ExprReading.{◌>>=◌}
 use Rattle.med_syntax.specs.Terminal as t
-use Rattle.med_syntax.specs.ExprReading.{◌>>=◌, choose, below}
-use Rattle.med_syntax.specs.QueryTree.{CoreTree, item_height, chain_height, highest_of, condition_height, core_height}
-use Rattle.med_syntax.specs.QueryGrammar.{keywords, SpellsList, SpellsItem, SpellsChain, SpellsGroup, SpellsPerhaps, SpellsListed, SpellsExpr, SpellsCore, SpellsUnions}
 use Rattle.query_reader.specs.QueryReading.{Parser, seq, behind_word, behind_words, flag_of, item_of, list_of, perhaps_of, listed_of, source_of, group_of, quantified_of, selected_of, core_of, unions_of, all_unions_of}
 use Rattle.med_syntax.proofs.ExprSound.{bind_ok, ok_same}
 use Rattle.query_reader.proofs.PartSound.{FoundPart, Sound, found_as, flat, err_ok, word_is, words_are, item_sound, list_sound, condition_sound, listed_sound, FoundFlag, flag_sound}

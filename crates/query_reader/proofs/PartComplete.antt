@@ -11,14 +11,11 @@ use Rattle.med_syntax.specs.declared.expr.Joint.TheVariants.{Or, And}
 use Rattle.med_syntax.specs.declared.refusal.Refusal.{Refusal}
 use Rattle.med_syntax.specs.declared.refusal.Refusal.TheVariants.{TooHigh}
 use Rattle.med_syntax.specs.declared.symbols.Separator.TheVariants.{Comma}
-use Rattle.med_syntax.specs.Tree.{Name}
-use Rattle.med_syntax.specs.Terminal.{Terminal}
+use Rattle.med_syntax.specs.Prelude.{Name, Terminal, ExprTree, ExprTrees, num, negative, text, truth, null, column, call_all, call, paren, minus, binary, between, among, like, compare, tested, negation, chain, none, more, perhaps_not, status_terminal, height, Fits, spelling, spellings, IsExpr, behind_of, keywords, SpellsOthers, SpellsList, SpellsLabel, SpellsAlias, SpellsItem, SpellsEntry, SpellsFlag, SpellsPerhaps, SpellsListed, SpellsExpr}
+use Rattle.med_syntax.specs.ExprReading.{below}
+use Rattle.med_syntax.specs.ExprReading.{◌>>=◌}
 use Rattle.med_syntax.specs.Terminal as t
-use Rattle.med_syntax.specs.ExprTree.{ExprTree, ExprTrees, num, negative, text, truth, null, column, call_all, call, paren, minus, binary, between, among, like, compare, tested, negation, chain, none, more, perhaps_not, status_terminal, height, Fits, spelling, spellings, IsExpr}
-use Rattle.med_syntax.specs.ExprReading.{◌>>=◌, below}
-use Rattle.med_syntax.specs.ExprSteps.{behind_of}
 use Rattle.med_syntax.specs.QueryTree.{all, all_of, value, EntryTree, item_height, highest_of, condition_height}
-use Rattle.med_syntax.specs.QueryGrammar.{keywords, SpellsOthers, SpellsList, SpellsLabel, SpellsAlias, SpellsItem, SpellsEntry, SpellsFlag, SpellsPerhaps, SpellsListed, SpellsExpr}
 use Rattle.query_reader.specs.QueryReading.{Parser, behind_word, behind_words, flag_of, perhaps_name, label_after, value_item, item_of, others, list_of, alias_after, entry_of, perhaps_of, listed_of}
 use Rattle.med_syntax.proofs.QueryLabels.{label_is}
 use Rattle.med_syntax.proofs.ExprChains.{low_or_high, reach}

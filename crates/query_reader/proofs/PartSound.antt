@@ -8,16 +8,12 @@ use Rattle.med_syntax.specs.declared.expr.Joint.TheVariants.{Or, And}
 use Rattle.med_syntax.specs.declared.refusal.Refusal.{Refusal}
 use Rattle.med_syntax.specs.declared.refusal.Refusal.TheVariants.{Syntax}
 use Rattle.med_syntax.specs.declared.symbols.Separator.TheVariants.{Comma}
-use Rattle.med_syntax.specs.Tree.{Name}
+use Rattle.med_syntax.specs.Prelude.{Name, Terminal, word_terminal, ExprTree, spelling, height, choose, behind_of, keywords, SpellsOthers, SpellsList, IsLabel, SpellsLabel, SpellsAlias, SpellsItem, SpellsEntry, SpellsFlag, SpellsPerhaps, SpellsListed, SpellsExpr, label_of}
+use Rattle.med_syntax.specs.ExprReading.{below}
 use Rattle.med_syntax.specs.Words.{is_reserved}
-use Rattle.med_syntax.specs.Terminal.{Terminal, word_terminal}
+use Rattle.med_syntax.specs.ExprReading.{◌>>=◌}
 use Rattle.med_syntax.specs.Terminal as t
-use Rattle.med_syntax.specs.ExprTree.{ExprTree, spelling, height}
-use Rattle.med_syntax.specs.ExprReading.{◌>>=◌, choose, below}
-use Rattle.med_syntax.specs.ExprSteps.{behind_of}
 use Rattle.med_syntax.specs.QueryTree.{all, all_of, value, item_height, highest_of, condition_height}
-use Rattle.med_syntax.specs.QueryGrammar.{keywords, SpellsOthers, SpellsList, IsLabel, SpellsLabel, SpellsAlias, SpellsItem, SpellsEntry, SpellsFlag, SpellsPerhaps, SpellsListed, SpellsExpr}
-use Rattle.med_syntax.specs.QueryTerminals.{label_of}
 use Rattle.query_reader.specs.QueryReading.{Parser, behind_word, behind_words, flag_of, read_name, perhaps_name, label_at, label_after, value_item, item_of, others, list_of, alias_after, entry_of, perhaps_of, listed_of}
 use Rattle.med_syntax.proofs.ExprSound.{bind_ok, ok_same, sounds}
 use Rattle.med_syntax.proofs.ExprSound as expr

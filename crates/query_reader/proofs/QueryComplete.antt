@@ -3,11 +3,8 @@ use Rattle.std.proofs.Common.{◌≡◌, ℕ, ◌+◌, ◌≤◌, ◌<◌, inl, 
 use Rattle.std.specs.Prelude.{max, Ok, Err, None}
 use Rattle.med_syntax.specs.declared.refusal.Refusal.TheVariants.{TooHigh}
 use Rattle.med_syntax.specs.declared.symbols.Separator.TheVariants.{Comma}
-use Rattle.med_syntax.specs.Terminal.{Terminal}
+use Rattle.med_syntax.specs.Prelude.{Terminal, behind_of, SelectTree, StatementTree, select, key_height, highest_of, core_height, select_height, statement_height, SpellsKey, SpellsLimits, SpellsListed, SpellsSelect, Spells, IsEnd, IsLine}
 use Rattle.med_syntax.specs.Terminal as t
-use Rattle.med_syntax.specs.ExprSteps.{behind_of}
-use Rattle.med_syntax.specs.QueryTree.{SelectTree, StatementTree, select, key_height, highest_of, core_height, select_height, statement_height}
-use Rattle.med_syntax.specs.QueryGrammar.{SpellsKey, SpellsLimits, SpellsListed, SpellsSelect, Spells, IsEnd, IsLine}
 use Rattle.query_reader.specs.QueryReading.{key_of, query_of, statement_of, is_end, line_of}
 use Rattle.med_syntax.proofs.ExprChains.{low_or_high}
 use Rattle.query_reader.proofs.PartComplete.{held, held_low, held_high, Takes, Clear, first_none, listed_takes}

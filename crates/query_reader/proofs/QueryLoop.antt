@@ -5,13 +5,10 @@ use Rattle.med_syntax.specs.declared.refusal.ReadFault.{ReadFault}
 use Rattle.med_syntax.specs.declared.refusal.ReadFault.TheVariants as faults
 use Rattle.med_syntax.specs.declared.refusal.Refusal.{Refusal}
 use Rattle.med_syntax.specs.declared.symbols.Separator.TheVariants.{Comma}
-use Rattle.med_syntax.specs.Terminal.{Terminal}
-use Rattle.med_syntax.specs.Terminal as t
-use Rattle.med_syntax.specs.ExprAnswers.{ReadsAs}
+use Rattle.med_syntax.specs.Prelude.{Terminal, ReadsAs, behind_of, JoinTree, CoreTree}
 use Rattle.med_syntax.specs.ExprReading.{◌>>=◌}
-use Rattle.med_syntax.specs.ExprSteps.{behind_of}
+use Rattle.med_syntax.specs.Terminal as t
 use Rattle.query_reader.specs.declared.query_source.JoinWay.{JoinWay}
-use Rattle.med_syntax.specs.QueryTree.{JoinTree, CoreTree}
 use Rattle.query_reader.specs.QueryReading.{Parser, behind_words, others, list_of, join_words, join_of, joins_of, all_joins_of, core_of, unions_of, all_unions_of}
 use Rattle.query_reader.proofs.ClauseComplete.{join_long}
 use Rattle.query_reader.proofs.PartSound.{Sound, comma_is, words_are}

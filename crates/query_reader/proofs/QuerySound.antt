@@ -2,10 +2,8 @@
 use Rattle.std.proofs.Common.{◌≡◌, ℕ, ◌≤◌, inl, inr, cond, List, [], ◌∷◌, ◌++◌, refl, subst, arith, codes}
 use Rattle.std.specs.Prelude.{Ok, Err}
 use Rattle.med_syntax.specs.declared.refusal.Refusal.TheVariants.{Syntax}
-use Rattle.med_syntax.specs.Terminal.{Terminal}
+use Rattle.med_syntax.specs.Prelude.{Terminal, SelectTree, StatementTree, select, key_height, highest_of, core_height, statement_height, SpellsKey, SpellsListed, SpellsCore, SpellsUnions, Spells, IsEnd, IsLine}
 use Rattle.med_syntax.specs.Terminal as t
-use Rattle.med_syntax.specs.QueryTree.{SelectTree, StatementTree, select, key_height, highest_of, core_height, statement_height}
-use Rattle.med_syntax.specs.QueryGrammar.{SpellsKey, SpellsListed, SpellsCore, SpellsUnions, Spells, IsEnd, IsLine}
 use Rattle.query_reader.specs.QueryReading.{listed_of, core_of, all_unions_of, key_of, limits_of, query_of, statement_of, is_end, line_of}
 use Rattle.med_syntax.proofs.ExprSound.{bind_ok, ok_same}
 use Rattle.query_reader.proofs.PartSound.{FoundPart, Sound, found_as, flat, err_ok, listed_sound}

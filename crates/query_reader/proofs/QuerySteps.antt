@@ -4,8 +4,7 @@ use Rattle.std.specs.Prelude.{Result, Ok, Err}
 use Rattle.med_syntax.specs.declared.refusal.ReadFault.{ReadFault}
 use Rattle.med_syntax.specs.declared.refusal.ReadFault.TheVariants as faults
 use Rattle.med_syntax.specs.declared.refusal.Refusal.{Refusal}
-use Rattle.med_syntax.specs.Terminal.{Terminal}
-use Rattle.med_syntax.specs.ExprAnswers.{ReadsAs}
+use Rattle.med_syntax.specs.Prelude.{Terminal, ReadsAs}
 use Rattle.query_reader.specs.QueryReading.{Parser, seq}
 
 -- where the first part was read, what is returned of the others

@@ -5,15 +5,9 @@ use Rattle.med_syntax.specs.declared.refusal.Refusal.TheVariants.{Syntax, TooHig
 use Rattle.std.proofs.lemmas.List.Recursion.{is_count_by}
 use Rattle.med_lexer.specs.Lexemes.{Shape, word, quoted, literal, number, mark}
 use Rattle.med_syntax.specs.declared.query_symbols.Place.{Place}
-use Rattle.med_syntax.specs.Shapes.{deepens}
-use Rattle.med_syntax.specs.ExprTerminals.{follows, terminal_at}
-use Rattle.med_syntax.specs.QueryTerminals.{is_one_of, keywords_at, word_at, words_at, place_behind}
-use Rattle.med_syntax.specs.Terminal.{Terminal}
+use Rattle.med_syntax.specs.Prelude.{deepens, follows, terminal_at, is_one_of, keywords_at, word_at, words_at, place_behind, Terminal, ExprTree, height, IsExpr, is_heavy, weight, keywords, SpellsOthers, SpellsList, SpellsItem, SpellsOn, SpellsJoin, SpellsJoins, SpellsChain, SpellsKey, SpellsPerhaps, SpellsListed, SpellsExpr, SpellsCore, SpellsUnions, SpellsSelect, Spells, IsLine}
 use Rattle.med_syntax.specs.Terminal as t
-use Rattle.med_syntax.specs.ExprTree.{ExprTree, height, IsExpr}
-use Rattle.med_syntax.specs.ExprWeight.{is_heavy, weight}
 use Rattle.med_syntax.specs.QueryTree.{ItemTree, all, all_of, value, EntryTree, inner_join, left_join, cross_join, StatementTree, select, item_height, join_height, chain_height, key_height, highest_of, condition_height, core_height, select_height, statement_height}
-use Rattle.med_syntax.specs.QueryGrammar.{keywords, SpellsOthers, SpellsList, SpellsItem, SpellsOn, SpellsJoin, SpellsJoins, SpellsChain, SpellsKey, SpellsPerhaps, SpellsListed, SpellsExpr, SpellsCore, SpellsUnions, SpellsSelect, Spells, IsLine}
 use Rattle.query_reader.specs.QueryReading.{line_of, bounded_line}
 use Rattle.med_syntax.proofs.BoundedReading.{ReadsInRoom, tried_sound, tried_out, tried_told}
 use Rattle.med_syntax.proofs.ExprWeighing.{weight_append, weight_more, weight_step, heavy_at, deep, bound}

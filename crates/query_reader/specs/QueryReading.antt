@@ -7,14 +7,10 @@ use Rattle.med_syntax.specs.declared.refusal.Refusal.TheVariants.{Syntax}
 use Rattle.med_syntax.specs.declared.symbols.Separator.TheVariants.{Comma}
 use Rattle.query_reader.specs.declared.query_source.JoinWay.{JoinWay}
 use Rattle.query_reader.specs.declared.query_source.JoinWay.TheVariants as ways
-use Rattle.med_syntax.specs.QueryTerminals.{label_of}
-use Rattle.med_syntax.specs.Tree.{Name}
-use Rattle.med_syntax.specs.Terminal.{Terminal}
+use Rattle.med_syntax.specs.Prelude.{label_of, Name, Terminal, ExprTree, choose, behind_of, bounded}
+use Rattle.med_syntax.specs.ExprReading.{below}
+use Rattle.med_syntax.specs.ExprReading.{◌>>=◌}
 use Rattle.med_syntax.specs.Terminal as t
-use Rattle.med_syntax.specs.ExprTree.{ExprTree}
-use Rattle.med_syntax.specs.ExprReading.{◌>>=◌, choose, below}
-use Rattle.med_syntax.specs.ExprSteps.{behind_of}
-use Rattle.med_syntax.specs.ExprWeight.{bounded}
 use Rattle.med_syntax.specs.QueryTree.{ItemTree, all, all_of, value, EntryTree, JoinTree, inner_join, left_join, cross_join, ChainTree, GroupTree, KeyTree, LimitTree, no_limit, rows, CoreTree, SelectTree, StatementTree, select}
 
 -- what stands at the front and the terminals behind it, or the refusal

@@ -1,9 +1,6 @@
 //! GROUP BY, ORDER BY, LIMIT and OFFSET, by recursive descent.
 
-ghost use Rattle.med_syntax.specs.ExprAnswers.{ReadsAs};
-ghost use Rattle.med_syntax.specs.SymbolView.{terminals_of};
-ghost use Rattle.med_syntax.specs.ExprView.{expr_tree};
-ghost use Rattle.med_syntax.specs.QueryView.{group_tree, key_tree, limit_tree};
+ghost use Rattle.med_syntax.specs.Prelude.{ReadsAs, terminals_of, expr_tree, group_tree, key_tree, limit_tree};
 ghost use Rattle.query_reader.specs.QueryReading as reading;
 ghost use Rattle.std.specs.Prelude.{◌≡◌, ◌<◌, ◌∷◌, [], codes, option_map, map};
 

@@ -1,9 +1,6 @@
 //! What stands behind FROM, by recursive descent.
 
-ghost use Rattle.med_syntax.specs.ExprAnswers.{ReadsAs};
-ghost use Rattle.med_syntax.specs.SymbolView.{terminals_of};
-ghost use Rattle.med_syntax.specs.ExprView.{expr_tree};
-ghost use Rattle.med_syntax.specs.QueryView.{chain_tree, entry_tree, join_tree};
+ghost use Rattle.med_syntax.specs.Prelude.{ReadsAs, terminals_of, expr_tree, chain_tree, entry_tree, join_tree};
 ghost use Rattle.query_reader.specs.QueryReading as reading;
 ghost use Rattle.std.specs.Prelude.{◌≡◌, ◌<◌, ◌∷◌, [], codes, option_map, map};
 ghost use Rattle.std.specs.String.{string_bytes};

@@ -1,11 +1,7 @@
 //! Statements, by recursive descent.
 
-ghost use Rattle.med_syntax.specs.ExprAnswers.{ReadsAs};
+ghost use Rattle.med_syntax.specs.Prelude.{ReadsAs, terminal_of_symbol, terminals_of, expr_tree, core_tree, item_tree, items_tree, select_tree, statement_tree, label_of};
 ghost use Rattle.med_syntax.specs.ExprReading.{below};
-ghost use Rattle.med_syntax.specs.SymbolView.{terminal_of_symbol, terminals_of};
-ghost use Rattle.med_syntax.specs.ExprView.{expr_tree};
-ghost use Rattle.med_syntax.specs.QueryView.{core_tree, item_tree, items_tree, select_tree, statement_tree};
-ghost use Rattle.med_syntax.specs.QueryTerminals.{label_of};
 ghost use Rattle.query_reader.specs.QueryReading as reading;
 ghost use Rattle.std.specs.Prelude.{◌≡◌, ◌<◌, ◌∷◌, [], map, option_map};
 ghost use Rattle.std.specs.String.{string_bytes};

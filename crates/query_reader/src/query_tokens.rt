@@ -1,11 +1,6 @@
 //! Tokens to statements.
 
-ghost use Rattle.med_syntax.specs.ExprAnswers.{ReadsAs};
-ghost use Rattle.med_syntax.specs.ExprTerminals.{AreReadable};
-ghost use Rattle.med_syntax.specs.SymbolView.{terminals_of};
-ghost use Rattle.med_syntax.specs.View.{shapes_of};
-ghost use Rattle.med_syntax.specs.QueryView.{statement_tree};
-ghost use Rattle.med_syntax.specs.QueryTerminals.{words_at};
+ghost use Rattle.med_syntax.specs.Prelude.{ReadsAs, AreReadable, terminals_of, shapes_of, statement_tree, words_at};
 ghost use Rattle.query_reader.specs.QueryReading.{bounded_line};
 ghost use Rattle.std.specs.Prelude.{false};
 

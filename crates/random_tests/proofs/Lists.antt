@@ -4,8 +4,7 @@ use Rattle.std.proofs.lemmas.List.{map-append, take-map, drop-map}
 use Rattle.med_value.specs.Datum.{Tuple, NoValue, datum}
 use Rattle.med_value.specs.declared.value.Value.{Value}
 use Rattle.tri_expr.specs.Lists.{datum_eq}
-use Rattle.med_query.specs.Lists.{tuple_eq, distinct}
-use Rattle.med_query.specs.Query.{limited, classes_by, has_key, key_of}
+use Rattle.med_query.specs.Prelude.{tuple_eq, distinct, limited, classes_by, has_key, key_of}
 
 off : (p q : Bool) → false ≡ q → false ≡ (p && q)
 off true q e = e

@@ -10,9 +10,7 @@ use Rattle.tri_expr.specs.declared.expr.Fault.{Fault}
 use Rattle.tri_expr.specs.declared.expr.Fault.TheVariants.{Range, Zero}
 use Rattle.tri_expr.specs.declared.expr.EvalFault.{EvalFault}
 use Rattle.tri_expr.specs.declared.expr.EvalFault.TheVariants.{OutOfRange, ZeroDivisor, NoMemory}
-use Rattle.tri_expr.specs.Outcome.{Outcome, Is, Answers, over, value_of}
-use Rattle.tri_expr.specs.Meaning.{meaning}
-use Rattle.tri_expr.specs.Verdict.{faults_told, fault_list, AnswersVerdict}
+use Rattle.tri_expr.specs.Prelude.{Outcome, Is, Answers, over, value_of, meaning, faults_told, fault_list, AnswersVerdict}
 use Rattle.med_query.specs.Query.{IsTold, senses}
 
 pub tells_left : (f : EvalFault) (xs ys : List Fault) → IsTold f xs → IsTold f (xs ++ ys)

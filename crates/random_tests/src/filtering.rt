@@ -2,9 +2,7 @@
 
 ghost use Rattle.std.specs.Prelude.{◌≡◌, IfOk, map, filter, flat_map, [], ◌∷◌, ◌++◌};
 ghost use Rattle.med_value.specs.Datum.{datum, tuple};
-ghost use Rattle.tri_expr.specs.Outcome.{over, value_of};
-ghost use Rattle.tri_expr.specs.Meaning.{meaning};
-ghost use Rattle.tri_expr.specs.Verdict.{is_met, is_in, fault_list};
+ghost use Rattle.tri_expr.specs.Prelude.{over, value_of, meaning, is_met, is_in, fault_list};
 ghost use Rattle.med_query.specs.Query.{senses, keeps as spec_keeps};
 ghost use Rattle.random_tests.specs.Plain.{Clears, tuples_in, where_told, arguments_told, having_told};
 

@@ -2,9 +2,8 @@
 
 ghost use Rattle.std.specs.Prelude.{◌≡◌, IfOk, map, filter, not, ◌∷◌, []};
 ghost use Rattle.med_value.specs.Datum.{tuple};
-ghost use Rattle.med_query.specs.Lists.{distinct, tuple_eq};
+ghost use Rattle.med_query.specs.Prelude.{distinct, tuple_eq, groups_of};
 ghost use Rattle.med_query.specs.Query.{key_of as spec_key_of, has_key as spec_has_key, classes_by as spec_classes_by, classes_of as spec_classes_of};
-ghost use Rattle.med_query.specs.Select.{groups_of};
 ghost use Rattle.random_tests.specs.Plain.{tuples_in};
 
 use crate::cells::{is_same_row, key_of};

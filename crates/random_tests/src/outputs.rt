@@ -2,10 +2,8 @@
 
 ghost use Rattle.std.specs.Prelude.{◌≡◌, IfOk, map, filter, flat_map, not, [], ◌∷◌, ◌++◌};
 ghost use Rattle.med_value.specs.Datum.{tuple};
-ghost use Rattle.med_query.specs.Lists.{distinct};
-ghost use Rattle.tri_expr.specs.Outcome.{over, value_of};
-ghost use Rattle.tri_expr.specs.Verdict.{is_in};
-ghost use Rattle.med_query.specs.Query.{senses, output_eq, output_faults};
+ghost use Rattle.med_query.specs.Prelude.{distinct, senses, output_eq, output_faults};
+ghost use Rattle.tri_expr.specs.Prelude.{over, value_of, is_in};
 ghost use Rattle.random_tests.specs.Plain.{Clears, tuples_in, output_of};
 
 use crate::cells::is_same_row;

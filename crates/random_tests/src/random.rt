@@ -1,9 +1,7 @@
 //! The engine beside SELECT as it is defined, over small tables with random rows.
-ghost use Rattle.fdw_api.specs.Scan.{has_kind, is_clean, row_fits};
-ghost use Rattle.fdw_api.specs.State.{IsIdle};
+ghost use Rattle.fdw_api.specs.Prelude.{has_kind, is_clean, row_fits, IsIdle};
 ghost use Rattle.med_catalog.specs.declared.kind.SourceKind.TheVariants.{List as Lists};
-ghost use Rattle.med_session.specs.Engine.{IsSound, TakesAs};
-ghost use Rattle.med_session.specs.Shows.{shown};
+ghost use Rattle.med_session.specs.Prelude.{IsSound, TakesAs, shown};
 ghost use Rattle.med_value.specs.Datum.{datum, tuple};
 ghost use Rattle.list_wrapper.specs.ListBoxes.{box_of};
 ghost use Rattle.probe_wrapper.specs.Shuffled.{reordered, turns_of};

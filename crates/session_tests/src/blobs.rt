@@ -2,8 +2,7 @@
 //! source, and the file is whole or as it was. It is read by CREATE FOREIGN TABLE alone, so a table is dropped and made again to see it.
 ghost use Rattle.fdw_api.specs.State.{IsIdle};
 ghost use Rattle.med_catalog.specs.declared.kind.SourceKind.TheVariants.{Csv, JsonLines};
-ghost use Rattle.med_session.specs.Engine.{IsSound, TakesAs};
-ghost use Rattle.med_session.specs.Shows.{shown};
+ghost use Rattle.med_session.specs.Prelude.{IsSound, TakesAs, shown};
 ghost use Rattle.std.specs.Prelude.{IfOk};
 
 use crate::served::{ask, request_of};

@@ -1,6 +1,5 @@
 //! The scans that open cursors hold: which are live after each request, and how many rows they have given.
-ghost use Rattle.med_session.specs.Engine.{IsSound};
-ghost use Rattle.med_session.specs.Shows.{shown};
+ghost use Rattle.med_session.specs.Prelude.{IsSound, shown};
 
 use crate::expect::same_text;
 use crate::served::{ask, engine_over, in_failing, new_list, request_of};

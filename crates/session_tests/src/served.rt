@@ -2,8 +2,7 @@
 ghost use Rattle.fed_setup.specs.Demo.{demo_list};
 ghost use Rattle.list_wrapper.specs.ListBoxes.{box_of};
 ghost use Rattle.list_wrapper.specs.Lists.{IsNewList};
-ghost use Rattle.med_session.specs.Engine.{IsSound};
-ghost use Rattle.med_session.specs.Shows.{shown};
+ghost use Rattle.med_session.specs.Prelude.{IsSound, shown};
 ghost use Rattle.fdw_api.specs.Lifting.{lifted};
 ghost use Rattle.probe_wrapper.specs.Counting.{counted};
 ghost use Rattle.probe_wrapper.specs.Failing.{failed};

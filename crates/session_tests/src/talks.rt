@@ -2,8 +2,7 @@
 //! refused, and what was refused has changed nothing but for a FETCH, which has lost its cursor.
 ghost use Rattle.fed_setup.specs.Demo.{demo_list};
 ghost use Rattle.list_wrapper.specs.Lists.{IsNewList};
-ghost use Rattle.med_session.specs.Engine.{IsSound};
-ghost use Rattle.med_session.specs.Shows.{shown};
+ghost use Rattle.med_session.specs.Prelude.{IsSound, shown};
 
 use crate::served::{
     ask, engine_over, in_counting, in_failing, in_lift, in_shuffled, in_shy, in_vague, new_list,

@@ -1,9 +1,7 @@
 -- A run of engines is a run of each world that the first engine stands for.
 use Rattle.std.proofs.Common.{◌≡◌, ℕ, List, Option, refl, sym, ap, subst}
 use Rattle.fdw_api.specs.State.{BoxState}
-use Rattle.med_session.specs.World.{World, without_sessions}
-use Rattle.med_session.specs.Engine.{Agrees, Befell, EachRises}
-use Rattle.med_session.specs.Shows.{shown}
+use Rattle.med_session.specs.Prelude.{World, without_sessions, Agrees, Befell, EachRises, shown}
 use Rattle.med_session.specs.declared.engine.Engine.{Engine}
 use Rattle.med_world.proofs.Faring.{none_rises, rise_twice}
 use Rattle.session_wire.specs.Engines.{EngineSteps, EngineEnds, EngineRises}

@@ -1,22 +1,15 @@
 -- How a session's cursor of one name fares in a step.
 use Rattle.std.proofs.Common.{◌≡◌, ◌≢◌, ℕ, ◌⊎◌, Bool, true, false, if◌then◌else◌, List, Option, Some, None, IsSome, nat_eq, refl, ap, sym, ◌∙◌, subst, inl, inr, codes, bytes_eq}
 use Rattle.std.proofs.lemmas.Bool.Decides.{eqb_tells}
+use Rattle.std.proofs.lemmas.Option.{same_Some}
 use Rattle.med_value.specs.declared.cause.Cause.TheVariants.{Protocol, OutOfMemory, SourceFault, LimitExceeded}
-use Rattle.med_syntax.specs.Tree.{Name}
-use Rattle.med_syntax.specs.QueryTree.{select}
-use Rattle.med_syntax.specs.CursorTree.{CursorTree, declare, fetch, close}
-use Rattle.med_syntax.specs.WriteTree.{WriteTree}
+use Rattle.med_syntax.specs.Prelude.{Name, select, CursorTree, declare, fetch, close, WriteTree}
 use Rattle.med_catalog.specs.Changes.{ObjectChange, nothing, new_wrapper, new_server, new_mapping, new_table, no_wrapper, no_server, no_mapping, no_table}
 use Rattle.med_parser.specs.CommandTree.{CommandTree, on_data, on_rows, on_cursors, on_objects}
 use Rattle.med_parser.specs.CommandGrammar.{HasCommand}
-use Rattle.sql_meaning.specs.Requests.{AskedLine, opening, sql, bye}
-use Rattle.sql_meaning.specs.World.{World, Cursor, Session, with_session}
-use Rattle.sql_meaning.specs.Cursors.{cursor_named, with_cursor, without_cursor, with_handed, handing, Fetches, Fetched}
-use Rattle.sql_meaning.specs.Picks.{Pick}
-use Rattle.sql_meaning.specs.Replies.{Reply, done, reply_text}
-use Rattle.sql_meaning.specs.Causes.{NoneStands, IsStatementOf}
+use Rattle.sql_meaning.specs.Prelude.{AskedLine, opening, sql, bye, World, Cursor, Session, with_session, cursor_named, with_cursor, without_cursor, with_handed, handing, Fetches, Fetched, Pick, Reply, done, reply_text, NoneStands, IsStatementOf}
 use Rattle.sql_meaning.specs.Steps.{Trouble, new_cursor, Turns, Changes, TreeDoes, Does, Loses, WritesIn, is_written, is_unseen, shared_shows, Step, is_refused, is_done, lacks_memory, fetch_lacks_memory, source_fails, numbers_end}
-use Rattle.med_world.proofs.Lists.{some_same, bytes_same, bytes_other, other_bytes}
+use Rattle.med_world.proofs.Lists.{bytes_same, bytes_other, other_bytes}
 use Rattle.session_wire.specs.Frames.{IsFrame}
 use Rattle.session_wire.proofs.UniqueFrames.{one_frame}
 use Rattle.session_wire.specs.Exchanges.{Exchange}
@@ -120,7 +113,7 @@ lost : (w new : World) (sid : ℕ) (name other : Name) (e : Exchange) (o : Optio
 lost w new sid name other e o s h at is by = split (name_or other name)
   where
     one : s ≡ h.0
-    one = some_same s h.0 (sym at ∙ h.1)
+    one = same_Some s h.0 (sym at ∙ h.1)
 
     there : new.sessions sid ≡ Some (without_cursor s other)
     there = ap (λ (x : World). x.sessions sid) is ∙ set_there w sid (Some (without_cursor s other))
@@ -146,11 +139,11 @@ turns_fare law w new sid name e o query s (declare other (select q)) reply h at 
     split : (other ≡ name) ⊎ (other ≢ name) → Fares sid name e o new
     split (inl same) = ends (by_declare q (record { asks = (query, frame, subst (λ (n : Name). HasCommand query (on_cursors (declare n (select q)))) same has); told = said }))
     split (inr apart) = passes o (inl refl) (tree_passes law sid name e query (on_cursors (declare other (select q))) frame has apart)
-        (with_cursor s (new_cursor w other q), there, finds_more name s.cursors (new_cursor w other q) (other_bytes other name apart) ∙ ap (cursor_named name) (some_same s h.0 (sym at ∙ h.1)) ∙ h.2)
+        (with_cursor s (new_cursor w other q), there, finds_more name s.cursors (new_cursor w other q) (other_bytes other name apart) ∙ ap (cursor_named name) (same_Some s h.0 (sym at ∙ h.1)) ∙ h.2)
 turns_fare law w new sid name e o query s (fetch asked other) reply h at frame has told turns = split (name_or other name)
   where
     one : s ≡ h.0
-    one = some_same s h.0 (sym at ∙ h.1)
+    one = same_Some s h.0 (sym at ∙ h.1)
 
     there : new.sessions sid ≡ Some (with_handed s other turns.2.0)
     there = ap (λ (x : World). x.sessions sid) turns.2.3 ∙ set_there w sid _

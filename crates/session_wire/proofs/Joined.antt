@@ -3,8 +3,7 @@ use Rattle.std.proofs.Common.{◌≡◌, ℕ, ◌⊎◌, false, List, [], ◌∷
 use Rattle.med_value.specs.Datum.{Tuple}
 use Rattle.med_syntax.specs.Tree.{Name}
 use Rattle.med_query.specs.Query.{IsAnswer}
-use Rattle.sql_meaning.specs.World.{Cursor, Session}
-use Rattle.sql_meaning.specs.Cursors.{cursor_named, rows_leased, handing, Fetched, AreFetched, IsLast, rows_fetched}
+use Rattle.sql_meaning.specs.Prelude.{Cursor, Session, cursor_named, rows_leased, handing, Fetched, AreFetched, IsLast, rows_fetched}
 use Rattle.session_wire.specs.Lines.{Lines, line, rest, closed}
 use Rattle.session_wire.specs.Run.{Steps, IsAnswered, Run, RunFront}
 use Rattle.session_wire.specs.Worlds.{Scene, SceneSteps}

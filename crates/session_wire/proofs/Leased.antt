@@ -2,29 +2,19 @@
 use Rattle.std.proofs.Common.{◌≡◌, ◌≢◌, ℕ, zero, suc, ◌||◌, Bool, true, false, cond, if◌then◌else◌, List, [], ◌∷◌, ◌++◌, Option, Some, None, slice_get, map, Contains, refl, ap, sym, ◌∙◌, subst, inl, inr, bytes_eq}
 use Rattle.std.specs.List.{list_any}
 use Rattle.std.proofs.lemmas.Bool.{false≢true}
+use Rattle.std.proofs.lemmas.Option.{same_Some}
 use Rattle.med_value.specs.declared.cause.Cause.{Cause}
 use Rattle.med_value.specs.declared.cause.Cause.TheVariants.{InUse}
-use Rattle.med_syntax.specs.Tree.{Name}
-use Rattle.med_syntax.specs.QueryTree.{EntryTree, SelectTree, select}
+use Rattle.med_syntax.specs.Prelude.{Name, EntryTree, SelectTree, select, CursorTree, declare, fetch, close, WriteTree, DdlTree, create_wrapper, create_server, create_mapping, create_table, drop_wrapper, drop_server, drop_table, drop_mapping}
 use Rattle.fdw_api.specs.Kinds.{Held}
 use Rattle.bind_write.specs.Meaning.{target_of}
-use Rattle.med_syntax.specs.CursorTree.{CursorTree, declare, fetch, close}
-use Rattle.med_syntax.specs.WriteTree.{WriteTree}
-use Rattle.med_catalog.specs.Objects.{TableObject, Objects}
-use Rattle.med_syntax.specs.DdlTree.{DdlTree, create_wrapper, create_server, create_mapping, create_table, drop_wrapper, drop_server, drop_table, drop_mapping}
-use Rattle.med_catalog.specs.DdlCauses.{DdlCauses, lease_rows, object_rows, ddl_rows}
-use Rattle.med_catalog.specs.Changes.{ObjectChange, nothing, new_wrapper, new_server, new_mapping, new_table, no_wrapper, no_server, no_mapping, no_table, without, is_skipped, Asks, skips, makes}
+use Rattle.med_catalog.specs.Prelude.{TableObject, Objects, DdlCauses, lease_rows, object_rows, ddl_rows, ObjectChange, nothing, new_wrapper, new_server, new_mapping, new_table, no_wrapper, no_server, no_mapping, no_table, without, is_skipped, Asks, skips, makes}
 use Rattle.med_parser.specs.CommandTree.{CommandTree, on_data, on_rows, on_cursors, on_objects}
 use Rattle.med_parser.specs.CommandGrammar.{HasCommand}
 use Rattle.bind_names.specs.Scope.{query_entries}
-use Rattle.sql_meaning.specs.Requests.{AskedLine, opening, sql, bye, IsSid}
-use Rattle.sql_meaning.specs.World.{World, Leased, Cursor, Session, cells_of, rows_named, reads_table, leases, is_leased, beside_without, rows_with}
-use Rattle.sql_meaning.specs.Cursors.{cursor_named, is_cursor, handing}
-use Rattle.sql_meaning.specs.Picks.{Pick}
-use Rattle.sql_meaning.specs.Replies.{Reply}
-use Rattle.sql_meaning.specs.Causes.{NoneStands, TreeCauses}
+use Rattle.sql_meaning.specs.Prelude.{AskedLine, opening, sql, bye, IsSid, World, Leased, Cursor, Session, cells_of, rows_named, reads_table, leases, is_leased, beside_without, rows_with, cursor_named, is_cursor, handing, Pick, Reply, NoneStands, TreeCauses}
 use Rattle.sql_meaning.specs.Steps.{Trouble, new_cursor, Turns, Changes, TreeDoes, Does, Loses, WritesIn, is_written, is_unseen, shared_shows, Step, is_refused, is_done, lacks_memory, fetch_lacks_memory, source_fails, numbers_end}
-use Rattle.med_world.proofs.Lists.{some_same, same_bytes, bytes_same, none_some}
+use Rattle.med_world.proofs.Lists.{same_bytes, bytes_same, none_some}
 use Rattle.med_world.proofs.NamedTables.{found_place, place_of, at_place}
 use Rattle.med_world.proofs.Seats.{unleased}
 use Rattle.session_wire.specs.Run.{IsAnswered}
@@ -46,7 +36,7 @@ or_true false b h = h
 
 any_passes : {X : Type 0} (p : X → Bool) (xs : List X) (k : ℕ) (x : X) → slice_get xs k ≡ Some x → p x ≡ true → list_any p xs ≡ true
 any_passes p [] k x at h = absurd cc
-any_passes p (y ∷ ys) zero x at h = ap (λ (b : Bool). b || list_any p ys) (ap p (some_same y x at) ∙ h)
+any_passes p (y ∷ ys) zero x at h = ap (λ (b : Bool). b || list_any p ys) (ap p (same_Some y x at) ∙ h)
 any_passes p (y ∷ ys) (suc k) x at h = or_true (p y) (list_any p ys) (any_passes p ys k x at h)
 
 leased_by : (w : World) (sid : ℕ) (s : Session) (name table : Name) (c : Cursor) → IsSid sid → w.sessions sid ≡ Some s → cursor_named name s ≡ Some c → reads_table table c ≡ true → is_leased w table ≡ true
@@ -197,7 +187,7 @@ stays_gone law old new (e ∷ es) sid name x none h = split (answer_fares law ol
     split (ends k) rest = absurd (none.0 k)
 
 two_ways : (w : World) (sid : ℕ) (name : Name) (c : Cursor) → Has w sid name None → Has w sid name (Some c) → ⊥
-two_ways w sid name c a b = none_some c (cursor_named name b.0) (ap (cursor_named name) (some_same b.0 a.0 (sym b.1 ∙ a.1)) ∙ a.2) b.2
+two_ways w sid name c a b = none_some c (cursor_named name b.0) (ap (cursor_named name) (same_Some b.0 a.0 (sym b.1 ∙ a.1)) ∙ a.2) b.2
 
 remain : OneTree → (old new : Scene) (es : List Exchange) (sid : ℕ) (name : Name) (c : Cursor) (table : Name) (rows : List Held) → IsSid sid → Exchanged SceneSteps old es new → NoneEnds sid name es → Has old.world sid name (Some c)
     → (d : Cursor) → Has new.world sid name (Some d) → reads_table table c ≡ true → TableHasRows old.world table rows → TableHasRows new.world table rows
@@ -211,7 +201,7 @@ remain law old new (e ∷ es) sid name c table rows is x none h d last reads has
     split (passes now (inl same) by there) rest = rest c (subst (λ (o : Option Cursor). Has x.0.world sid name o) same there) reads
     split (passes now (inr lost) by there) rest =
         absurd (two_ways new.world sid name d (stays_gone law x.0 new es sid name x.2 none.1 (subst (λ (o : Option Cursor). Has x.0.world sid name o) lost there)) last)
-    split (gives b same f given fetches there) rest = rest (handing b f.rows) there (ap (reads_table table) (some_same b c (sym same)) ∙ reads)
+    split (gives b same f given fetches there) rest = rest (handing b f.rows) there (ap (reads_table table) (same_Some b c (sym same)) ∙ reads)
     split (ends k) rest = absurd (none.0 k)
 
 pub stay : OneTree → (old new : Scene) (es : List Exchange) (sid : ℕ) (s : Session) (c : Cursor) → IsSid sid → Exchanged SceneSteps old es new → old.world.sessions sid ≡ Some s → cursor_named c.name s ≡ Some c → KeepsRows old es new sid c
@@ -262,7 +252,7 @@ leased_as w e = record { table = e.table; rows = cells_of (rows_named e.table w.
 
 rows_leased_now : (w : World) (es : List EntryTree) (k : ℕ) (l : Leased) → slice_get (map (leased_as w) es) k ≡ Some l → l.rows ≡ cells_of (rows_named l.table w.catalog.tables w.rows)
 rows_leased_now w [] k l at = absurd cc
-rows_leased_now w (e ∷ es) zero l at = subst (λ (x : Leased). x.rows ≡ cells_of (rows_named x.table w.catalog.tables w.rows)) (some_same (leased_as w e) l at) refl
+rows_leased_now w (e ∷ es) zero l at = subst (λ (x : Leased). x.rows ≡ cells_of (rows_named x.table w.catalog.tables w.rows)) (same_Some (leased_as w e) l at) refl
 rows_leased_now w (e ∷ es) (suc k) l at = rows_leased_now w es k l at
 
 pub stay_declared : OneTree → (old new : Scene) (e : Exchange) (es : List Exchange) (sid : ℕ) (name : Name) (q : SelectTree) → Exchanged SceneSteps old (e ∷ es) new → Declares sid name q e → KeepsLeased old es new sid (new_cursor old.world name q)

@@ -1,10 +1,10 @@
 -- The cursor of a name in a list of cursors that has one more, one fewer, or one that has handed out more.
 use Rattle.std.proofs.Common.{◌≡◌, ◌≢◌, Bool, true, false, not, cond, List, [], ◌∷◌, ◌++◌, Option, Some, None, find, filter, map, refl, ap, sym, ◌∙◌}
+use Rattle.std.proofs.lemmas.Option.{same_Some}
 use Rattle.med_value.specs.Datum.{Tuple}
 use Rattle.med_syntax.specs.Tree.{Name}
-use Rattle.sql_meaning.specs.World.{Cursor}
-use Rattle.sql_meaning.specs.Cursors.{is_cursor, handing, hand_out}
-use Rattle.med_world.proofs.Lists.{some_same, bytes_same, other_bytes}
+use Rattle.sql_meaning.specs.Prelude.{Cursor, is_cursor, handing, hand_out}
+use Rattle.med_world.proofs.Lists.{bytes_same, other_bytes}
 use Rattle.med_world.proofs.NamedTables.{none_later}
 
 pub finds_more : (name : Name) (cs : List Cursor) (c : Cursor) → is_cursor name c ≡ false → find (is_cursor name) (cs ++ c ∷ []) ≡ find (is_cursor name) cs
@@ -58,5 +58,5 @@ handed_on name rows (x ∷ xs) c found = split (is_cursor name x) refl found (λ
         → (find (is_cursor name) xs ≡ Some c → find (is_cursor name) (map (hand_out name rows) xs) ≡ Some (handing c rows))
         → cond (is_cursor name (cond b (handing x rows) x)) (Some (cond b (handing x rows) x)) (find (is_cursor name) (map (hand_out name rows) xs)) ≡ Some (handing c rows)
     split true q e others =
-        ap (λ (b : Bool). cond b (Some (handing x rows)) (find (is_cursor name) (map (hand_out name rows) xs))) q ∙ ap (λ (y : Cursor). Some (handing y rows)) (some_same x c e)
+        ap (λ (b : Bool). cond b (Some (handing x rows)) (find (is_cursor name) (map (hand_out name rows) xs))) q ∙ ap (λ (y : Cursor). Some (handing y rows)) (same_Some x c e)
     split false q e others = ap (λ (b : Bool). cond b (Some x) (find (is_cursor name) (map (hand_out name rows) xs))) q ∙ others e

@@ -1,16 +1,10 @@
 -- A DECLARE that was done opens its cursor, and every DECLARE of a run begins one answer.
 use Rattle.std.proofs.Common.{◌≡◌, ℕ, List, [], ◌∷◌, ◌++◌, Option, Some, None, IsSome, refl, ap, sym, ◌∙◌, subst, inl, inr, codes}
 use Rattle.med_value.specs.declared.cause.Cause.TheVariants.{OutOfMemory, SourceFault, LimitExceeded, DuplicateCursor}
-use Rattle.med_syntax.specs.Tree.{Name}
-use Rattle.med_syntax.specs.QueryTree.{SelectTree, select}
-use Rattle.med_syntax.specs.CursorTree.{declare}
+use Rattle.med_syntax.specs.Prelude.{Name, SelectTree, select, declare}
 use Rattle.med_parser.specs.CommandTree.{CommandTree, on_cursors}
 use Rattle.med_parser.specs.CommandGrammar.{HasCommand}
-use Rattle.sql_meaning.specs.Requests.{AskedLine, sql}
-use Rattle.sql_meaning.specs.World.{World, Cursor}
-use Rattle.sql_meaning.specs.Cursors.{cursor_named, with_cursor}
-use Rattle.sql_meaning.specs.Replies.{Reply, done, reply_text}
-use Rattle.sql_meaning.specs.Causes.{NoneStands, exists}
+use Rattle.sql_meaning.specs.Prelude.{AskedLine, sql, World, Cursor, cursor_named, with_cursor, Reply, done, reply_text, NoneStands, exists}
 use Rattle.sql_meaning.specs.Steps.{Trouble, new_cursor, Turns, TreeDoes, Does, shared_shows, Step, is_refused, is_done, lacks_memory, fetch_lacks_memory, source_fails, numbers_end}
 use Rattle.med_world.proofs.Lists.{same_bytes}
 use Rattle.session_wire.specs.Run.{IsAnswered}

@@ -2,13 +2,10 @@
 use Rattle.std.proofs.Common.{◌≡◌, ℕ, List, [], ◌++◌, refl, ap, sym, ◌∙◌, subst, inl, inr, codes, decimal, get_or, arith}
 use Rattle.std.proofs.lemmas.List.{append_cancel_left, append_assoc}
 use Rattle.med_value.specs.declared.cause.Cause.{Cause}
-use Rattle.med_syntax.specs.Tree.{Name}
-use Rattle.med_syntax.specs.QueryTree.{select}
-use Rattle.med_syntax.specs.CursorTree.{declare, fetch, close}
+use Rattle.med_syntax.specs.Prelude.{Name, select, declare, fetch, close}
 use Rattle.med_parser.specs.CommandTree.{CommandTree, on_cursors}
 use Rattle.med_parser.specs.CommandGrammar.{HasCommand}
-use Rattle.sql_meaning.specs.Requests.{AskedLine, sql, bye}
-use Rattle.sql_meaning.specs.Replies.{done, refused, line, refusal, tag_line, reply_text}
+use Rattle.sql_meaning.specs.Prelude.{AskedLine, sql, bye, done, refused, line, refusal, tag_line, reply_text}
 use Rattle.session_wire.specs.Frames.{IsFrame}
 use Rattle.session_wire.proofs.UniqueFrames.{one_frame}
 use Rattle.session_wire.specs.Exchanges.{Exchange}

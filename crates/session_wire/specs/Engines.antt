@@ -1,9 +1,7 @@
 -- What it means that an engine answers requests.
 use Rattle.std.specs.Prelude.{ℕ, List}
 use Rattle.fdw_api.specs.State.{BoxState}
-use Rattle.med_session.specs.Requests.{AskedLine}
-use Rattle.med_session.specs.Engine.{IsSound, EachRises, IsAnswered, ClosesAll}
-use Rattle.med_session.specs.Shows.{shown}
+use Rattle.med_session.specs.Prelude.{AskedLine, IsSound, EachRises, IsAnswered, ClosesAll, shown}
 use Rattle.med_session.specs.declared.engine.Engine.{Engine}
 
 -- from each world that agrees with the old engine, a step leads to a reply of this text, and to a world that agrees with the new one

@@ -2,16 +2,11 @@
 use Rattle.std.specs.Prelude.{◌≡◌, ◌⊎◌, ℕ, false, List, [], ◌∷◌, ◌++◌, codes, Contains}
 use Rattle.med_value.specs.Datum.{Tuple}
 use Rattle.med_value.specs.declared.cause.Cause.{Cause}
-use Rattle.med_syntax.specs.Tree.{Name}
-use Rattle.med_syntax.specs.QueryTree.{SelectTree, select}
+use Rattle.med_syntax.specs.Prelude.{Name, SelectTree, select, CountTree, declare, fetch, close}
 use Rattle.med_query.specs.Query.{IsAnswer}
-use Rattle.med_syntax.specs.CursorTree.{CountTree, declare, fetch, close}
 use Rattle.med_parser.specs.CommandTree.{CommandTree, on_cursors}
 use Rattle.med_parser.specs.CommandGrammar.{HasCommand}
-use Rattle.sql_meaning.specs.Requests.{sql, bye}
-use Rattle.sql_meaning.specs.World.{Cursor}
-use Rattle.sql_meaning.specs.Cursors.{rows_leased, Fetched, IsLast, rows_fetched}
-use Rattle.sql_meaning.specs.Replies.{done, answered, refused, reply_text}
+use Rattle.sql_meaning.specs.Prelude.{sql, bye, Cursor, rows_leased, Fetched, IsLast, rows_fetched, done, answered, refused, reply_text}
 use Rattle.session_wire.specs.Frames.{IsFrame}
 use Rattle.session_wire.specs.Exchanges.{Exchange}
 

@@ -3,8 +3,7 @@ use Rattle.std.specs.Prelude.{◌≡◌, ◌⊎◌, ℕ, true, false, List, [], 
 use Rattle.med_syntax.specs.Tree.{Name}
 use Rattle.fdw_api.specs.Kinds.{Held}
 use Rattle.med_catalog.specs.Objects.{TableObject}
-use Rattle.sql_meaning.specs.World.{World, Leased, Cursor, Session, cells_of, reads_table}
-use Rattle.sql_meaning.specs.Cursors.{cursor_named}
+use Rattle.sql_meaning.specs.Prelude.{World, Leased, Cursor, Session, cells_of, reads_table, cursor_named}
 use Rattle.session_wire.specs.Worlds.{Scene}
 use Rattle.session_wire.specs.Exchanges.{Exchange}
 use Rattle.session_wire.specs.Fetching.{EndsCursor}

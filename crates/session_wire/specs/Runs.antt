@@ -1,7 +1,6 @@
 -- What holds of every cursor in a run of lines.
 use Rattle.std.specs.Prelude.{◌≡◌, ℕ, List, ◌∷◌, ◌++◌}
-use Rattle.med_syntax.specs.Tree.{Name}
-use Rattle.med_syntax.specs.QueryTree.{SelectTree}
+use Rattle.med_syntax.specs.Prelude.{Name, SelectTree}
 use Rattle.sql_meaning.specs.Steps.{new_cursor}
 use Rattle.session_wire.specs.Worlds.{Scene, SceneSteps}
 use Rattle.session_wire.specs.Exchanges.{Exchange, Exchanged}

@@ -1,11 +1,7 @@
 -- What is answered to the lines of a stream, in the direct meaning of SQL over worlds.
 use Rattle.std.specs.Prelude.{◌≡◌, Option, List}
 use Rattle.fdw_api.specs.State.{BoxState}
-use Rattle.med_session.specs.World.{World, without_sessions}
-use Rattle.med_session.specs.Replies.{Reply, reply_text}
-use Rattle.med_session.specs.Steps.{Trouble, Step}
-use Rattle.med_session.specs.Engine.{Befell, EachRises}
-use Rattle.med_session.specs.Shows.{shown}
+use Rattle.med_session.specs.Prelude.{World, without_sessions, Reply, reply_text, Trouble, Step, Befell, EachRises, shown}
 use Rattle.med_session.specs.declared.engine.Engine.{Engine}
 use Rattle.session_wire.specs.Run.{Steps}
 

@@ -5,8 +5,7 @@
 //! text, also the empty one.
 ghost use Rattle.std.specs.Prelude.{◌≡◌, ◌≢◌, ◌+◌, ◌*◌, ◌<◌, ◌≤◌, ℕ, List, IfSome, IfNone, IfOk, IfErr};
 ghost use Rattle.std.specs.Fmt.{decimal};
-ghost use Rattle.med_session.specs.Asking.{asked};
-ghost use Rattle.med_session.specs.Requests.{AskedLine, IsSid};
+ghost use Rattle.med_session.specs.Prelude.{asked, AskedLine, IsSid};
 ghost use Rattle.session_wire.specs.Frames.{IsRequest, IsFrame, IsReplySid};
 
 use med_session::users::is_user;

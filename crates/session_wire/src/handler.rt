@@ -1,7 +1,6 @@
 //! What answers requests.
 ghost use Rattle.std.specs.Prelude.{◌≡◌, ◌<◌, ◌+◌, ◌++◌, ℕ, List, OnOk, OnErr, vec_len, vec_capacity};
-ghost use Rattle.med_session.specs.Asking.{asked};
-ghost use Rattle.med_session.specs.Requests.{AskedLine};
+ghost use Rattle.med_session.specs.Prelude.{asked, AskedLine};
 
 use med_session::{NoRoom, Request, Sid};
 

@@ -1,12 +1,8 @@
 //! The laws of cursors over runs of lines: each is the contract of a function that does nothing.
 
 ghost use Rattle.std.specs.Prelude.{◌≡◌, ℕ, List, [], ◌∷◌, ◌++◌, Some};
-ghost use Rattle.med_syntax.specs.Tree.{Name};
-ghost use Rattle.med_syntax.specs.QueryTree.{SelectTree};
-ghost use Rattle.sql_meaning.specs.Requests.{IsSid};
-ghost use Rattle.sql_meaning.specs.World.{Session, Cursor};
-ghost use Rattle.sql_meaning.specs.Cursors.{cursor_named};
-ghost use Rattle.sql_meaning.specs.Steps.{new_cursor};
+ghost use Rattle.med_syntax.specs.Prelude.{Name, SelectTree};
+ghost use Rattle.sql_meaning.specs.Prelude.{IsSid, Session, Cursor, cursor_named, new_cursor};
 ghost use Rattle.session_wire.specs.Lines.{Lines};
 ghost use Rattle.session_wire.specs.Run.{Run, RunFront};
 ghost use Rattle.session_wire.specs.Worlds.{Scene, SceneSteps, SceneEnds};

@@ -1,8 +1,6 @@
 //! What a stream before an engine is answered, in the direct meaning of SQL over worlds.
 ghost use Rattle.std.specs.Prelude.{ℕ, List, Option};
-ghost use Rattle.med_session.specs.World.{World};
-ghost use Rattle.med_session.specs.Engine.{Agrees};
-ghost use Rattle.med_session.specs.Shows.{shown};
+ghost use Rattle.med_session.specs.Prelude.{World, Agrees, shown};
 ghost use Rattle.med_session.specs.declared.engine.Engine.{Engine};
 ghost use Rattle.session_wire.specs.Engines.{EngineSteps, EngineEnds, EngineRises};
 ghost use Rattle.session_wire.specs.Run.{Fed, BrokenOff};

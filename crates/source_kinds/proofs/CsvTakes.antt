@@ -3,13 +3,11 @@ use Rattle.std.proofs.Common.{◌≡◌, ℕ, ◌+◌, Bool, true, false, cond, 
 use Rattle.std.specs.List.{flat_map}
 use Rattle.med_value.specs.declared.cause.Cause.{Cause}
 use Rattle.med_value.specs.declared.cause.Cause.TheVariants.{InvalidOptionValue}
-use Rattle.fdw_api.specs.Kinds.{Kind, OptionForm}
-use Rattle.fdw_api.specs.State.{BoxState}
+use Rattle.fdw_api.specs.Prelude.{Kind, OptionForm, BoxState}
 use Rattle.med_syntax.specs.DdlTree.{OptionTree, ColumnTree}
 use Rattle.med_catalog.specs.declared.kind.SourceKind.TheVariants.{Csv}
 use Rattle.med_catalog.specs.declared.options.OptionPlace.TheVariants.{Table, Column}
-use Rattle.med_catalog.specs.Options.{texts_of, is_unknown, has_unknown, is_refused, has_bad_text, table_settings, column_settings, setting_at}
-use Rattle.med_catalog.specs.DdlCauses.{some_options}
+use Rattle.med_catalog.specs.Prelude.{texts_of, is_unknown, has_unknown, is_refused, has_bad_text, table_settings, column_settings, setting_at, some_options}
 use Rattle.med_world.specs.Engine.{TakesAs}
 use Rattle.csv_wrapper.specs.CsvKind.{csv_kind, objections_to}
 use Rattle.source_kinds.proofs.Rows.{or_left, or_right, bytes_sym, options_known, texts_good}

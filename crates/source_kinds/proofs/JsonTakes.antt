@@ -3,15 +3,13 @@ use Rattle.std.proofs.Common.{◌≡◌, ◌≢◌, ◌<◌, ◌≤◌, ℕ, ◌
 use Rattle.std.specs.List.{list_any, list_all}
 use Rattle.std.proofs.lemmas.Bool.Decides.{nat_tests}
 use Rattle.med_value.specs.Column.{Column as ColumnIs}
-use Rattle.fdw_api.specs.Kinds.{Kind, OptionForm}
-use Rattle.fdw_api.specs.State.{BoxState}
+use Rattle.fdw_api.specs.Prelude.{Kind, OptionForm, BoxState}
 use Rattle.med_syntax.specs.DdlTree.{OptionTree, ColumnTree}
 use Rattle.med_catalog.specs.declared.kind.SourceKind.TheVariants.{JsonLines}
 use Rattle.med_catalog.specs.declared.options.OptionPlace.TheVariants.{Table, Column}
 use Rattle.med_catalog.specs.declared.options.OptionText.TheVariants.{Any, BlobName}
 use Rattle.med_catalog.specs.Options.{is_unknown, has_unknown, repeats, text_of, member_of as member_named, table_settings, column_settings, setting_at}
-use Rattle.med_catalog.specs.DdlCauses.{some_options}
-use Rattle.med_catalog.specs.Changes.{AreDeclared}
+use Rattle.med_catalog.specs.Prelude.{some_options, AreDeclared}
 use Rattle.med_world.specs.Engine.{TakesAs}
 use Rattle.jsonl_wrapper.specs.Fields.{Reader, is_member_option, member_of, readers_from, readers_of, reads_member, members_differ}
 use Rattle.jsonl_wrapper.specs.Jsonl.{json_kind, json_objections}

@@ -1,10 +1,8 @@
 -- A list takes each table that the catalogue lets pass.
 use Rattle.std.proofs.Common.{◌≡◌, false, ◌++◌, [], ap, ◌∙◌}
-use Rattle.fdw_api.specs.Kinds.{Kind}
-use Rattle.fdw_api.specs.State.{BoxState}
+use Rattle.fdw_api.specs.Prelude.{Kind, BoxState}
 use Rattle.med_syntax.specs.DdlTree.{TableTree}
-use Rattle.med_catalog.specs.Options.{table_settings, column_settings}
-use Rattle.med_catalog.specs.DdlCauses.{are_options_unknown}
+use Rattle.med_catalog.specs.Prelude.{table_settings, column_settings, are_options_unknown}
 use Rattle.med_catalog.specs.declared.kind.SourceKind.TheVariants.{List as Lists}
 use Rattle.med_world.specs.Engine.{TakesAs}
 use Rattle.list_wrapper.specs.Lists.{list_kind, list_objections}

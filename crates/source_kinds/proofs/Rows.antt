@@ -3,10 +3,7 @@ use Rattle.std.proofs.Common.{◌≡◌, ℕ, suc, ◌||◌, Bool, true, false, 
 use Rattle.std.proofs.lemmas.Slice.Eq.{bytes_eq-Decides}
 use Rattle.med_value.specs.declared.cause.Cause.{Cause}
 use Rattle.med_syntax.specs.DdlTree.{TableTree}
-use Rattle.med_catalog.specs.Objects.{Objects}
-use Rattle.med_catalog.specs.Options.{shares_member}
-use Rattle.med_catalog.specs.DdlCauses.{CauseRow, Stands, create_table_rows, are_options_unknown, are_texts_bad}
-use Rattle.med_catalog.specs.Telling.{AreClear}
+use Rattle.med_catalog.specs.Prelude.{Objects, shares_member, CauseRow, Stands, create_table_rows, are_options_unknown, are_texts_bad, AreClear}
 use Rattle.med_catalog.specs.declared.kind.SourceKind.{SourceKind}
 
 pub or_left : (a b : Bool) → (a || b) ≡ false → a ≡ false

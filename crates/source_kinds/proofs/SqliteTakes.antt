@@ -5,10 +5,8 @@ use Rattle.med_syntax.specs.DdlTree.{OptionTree, ColumnTree, TableTree}
 use Rattle.med_catalog.specs.declared.kind.SourceKind.TheVariants.{Sqlite}
 use Rattle.med_catalog.specs.declared.options.OptionPlace.TheVariants.{Table, Column}
 use Rattle.med_catalog.specs.declared.options.OptionText.TheVariants.{Any}
-use Rattle.med_catalog.specs.Options.{only, has_unknown, table_settings, column_settings, setting_at}
-use Rattle.med_catalog.specs.DdlCauses.{some_options, are_options_unknown}
-use Rattle.fdw_api.specs.Kinds.{Kind}
-use Rattle.fdw_api.specs.State.{BoxState}
+use Rattle.med_catalog.specs.Prelude.{only, has_unknown, table_settings, column_settings, setting_at, some_options, are_options_unknown}
+use Rattle.fdw_api.specs.Prelude.{Kind, BoxState}
 use Rattle.med_world.specs.Engine.{TakesAs}
 use Rattle.sqlite.specs.Effect.{Database}
 use Rattle.sqlite_wrapper.specs.Kinds.{sqlite_kind, sqlite_objections}

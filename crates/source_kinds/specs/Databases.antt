@@ -2,12 +2,10 @@
 use Rattle.std.specs.Prelude.{◌≡◌, ℕ, Bool, true, false, List, [], Option, Some, None, codes, bytes_eq}
 use Rattle.source_kinds.specs.declared.either.EitherSource.{EitherSource}
 use Rattle.source_kinds.specs.declared.either.EitherSource.TheVariants.{First, Second}
-use Rattle.fdw_api.specs.Kinds.{Stored}
-use Rattle.fdw_api.specs.State.{BoxState}
+use Rattle.fdw_api.specs.Prelude.{Stored, BoxState}
 use Rattle.sqlite.specs.Effect.{Database}
 use Rattle.sqlite.specs.Held.{Held}
-use Rattle.sqlite_tables.specs.Layouts.{kinds_in, layout_at}
-use Rattle.sqlite_tables.specs.Tables.{entry_of}
+use Rattle.sqlite_tables.specs.Prelude.{kinds_in, layout_at, entry_of}
 use Rattle.sqlite.specs.declared.error.Error.{Error}
 use Rattle.sqlite.specs.declared.error.Error.TheVariants.{SqliteFailure}
 use Rattle.sqlite.specs.declared.error.ErrorCode.{ErrorCode}

@@ -3,25 +3,18 @@ use Rattle.std.proofs.Common.{◌≡◌, ℕ, Bool, true, List, [], map, Result,
 use Rattle.std.specs.Ordering.{nat_cmp}
 use Rattle.std.specs.FinMap as finmap
 use Rattle.std.specs.FinMap.{gets}
+use Rattle.std.proofs.lemmas.Option.{same_Some}
 use Rattle.med_value.specs.Datum.{Tuple, datum}
 use Rattle.med_value.specs.declared.value.Value.{Value}
 use Rattle.med_value.specs.declared.value.ColType.{ColType}
-use Rattle.fdw_api.specs.Scan.{Spec, restriction_form, params_fit}
+use Rattle.fdw_api.specs.Prelude.{Spec, restriction_form, params_fit, Column, OptionForm, BoxTable, Scan, BoxState, IsIdle, table_of, scan_of, set_at, CanBind, Binds, CanUnbind, Begins, IsOpen, Iterates, Breaks, CanRescan, Rescans, CanModify, AllowsPromise, CanBegin2, wish_form, spec2_of, is_fair}
 use Rattle.fdw_api.specs.declared.scan.Restriction.{Restriction}
-use Rattle.fdw_api.specs.Kinds.{Column, OptionForm}
-use Rattle.fdw_api.specs.State.{BoxTable, Scan, BoxState, IsIdle, table_of, scan_of, set_at}
-use Rattle.fdw_api.specs.Calls.{CanBind, Binds, CanUnbind, Begins, IsOpen, Iterates, Breaks, CanRescan, Rescans}
-use Rattle.fdw_api.specs.Writes.{CanModify}
-use Rattle.fdw_api.specs.Wishes.{AllowsPromise, CanBegin2, wish_form, spec2_of, is_fair}
 use Rattle.fdw_api.specs.declared.wishes.ScanSpec2.{ScanSpec2}
 use Rattle.fdw_api.specs.declared.interface.Fault.{Fault}
 use Rattle.fdw_api.specs.declared.interface.SourceRow.{SourceRow}
 
 pub put_same : {X : Type 0} (m : finmap.FinMap nat_cmp X) (k : ℕ) (v : X) → finmap.get (finmap.insert m k v) k ≡ Some v
 put_same m k v = grind (gets, rules)
-
-pub some_inj : {A : Type 0} (a b : A) → Some a ≡ Some b → a ≡ b
-some_inj a b q = cc
 
 not_none : {X : Type 0} (o : Option X) (x : X) → o ≡ None → o ≡ Some x → ⊥
 not_none o x e f = absurd cc
@@ -68,7 +61,7 @@ given_can_rescan old new n None params g c = record {
   typed = c.typed;
 }
 given_can_rescan old new n (Some row) params g c =
-    let same : g.scan ≡ c.scan = some_inj g.scan c.scan (sym g.at ∙ c.at) in
+    let same : g.scan ≡ c.scan = same_Some g.scan c.scan (sym g.at ∙ c.at) in
     record {
       scan = record c.scan { left = g.left };
       at = ap (λ z. finmap.get z.live n) g.ledger ∙ put_same old.ledger.live n _ ∙ ap (λ (z : Scan). Some (record z { left = g.left })) same;
@@ -83,7 +76,7 @@ pub bound_can_modify : (old new : BoxState) (remote : List ℕ) (columns : List 
 bound_can_modify old new remote columns settings t idle b = let c = bound_can_unbind old new remote columns settings t idle b in record { is_bound = c.is_bound; no_scan = c.no_scan; not_staged = c.not_staged }
 
 pub bound_kinds : (old new : BoxState) (remote : List ℕ) (columns : List Column) (settings : List OptionForm) (kinds : List ColType) (t : ℕ) (b : Binds old remote columns settings t new) → map (λ c. c.kind) columns ≡ kinds → (bound : BoxTable) → table_of new t ≡ Some bound → bound.kinds ≡ kinds
-bound_kinds old new remote columns settings kinds t b e bound is = ap (λ (z : BoxTable). z.kinds) (some_inj bound b.bound (sym is ∙ bound_is_table old new remote columns settings t b)) ∙ b.kinds_are ∙ e
+bound_kinds old new remote columns settings kinds t b e bound is = ap (λ (z : BoxTable). z.kinds) (same_Some bound b.bound (sym is ∙ bound_is_table old new remote columns settings t b)) ∙ b.kinds_are ∙ e
 
 pub on_ok_any : {T E P : Type 0} (r : Result T E) → P → OnOk r P
 on_ok_any (Ok x) p = p
@@ -115,7 +108,7 @@ can_is_live s n params c = some_is _ _ c.at
 pub given_is_open : (old new : BoxState) (n : ℕ) (row : Option SourceRow) → Iterates old n row new → IsOpen old n → IsOpen new n
 given_is_open old new n None g is_open = (is_open.0, ap (λ z. finmap.get z.live n) g.ledger ∙ is_open.1, is_open.2)
 given_is_open old new n (Some row) g is_open =
-    (record g.scan { left = g.left }, ap (λ z. finmap.get z.live n) g.ledger ∙ put_same old.ledger.live n _, ap (λ (z : Scan). z.broken) (some_inj g.scan is_open.0 (sym g.at ∙ is_open.1)) ∙ is_open.2)
+    (record g.scan { left = g.left }, ap (λ z. finmap.get z.live n) g.ledger ∙ put_same old.ledger.live n _, ap (λ (z : Scan). z.broken) (same_Some g.scan is_open.0 (sym g.at ∙ is_open.1)) ∙ is_open.2)
 
 -- a scan with a wish may begin by the wrapper's own answer, where its restrictions name no parameter
 pub wished_begins : (s : BoxState) (t : ℕ) (spec : ScanSpec2) → ((kinds : List ColType) → params_fit kinds (map restriction_form spec.base.offered.items) [] ≡ true) → AllowsPromise s t (spec2_of spec)
@@ -132,7 +125,7 @@ wished_begins s t spec fits a fair = record {
 -- begun again, it may begin again by the same parameters
 pub again_can_rescan : (old new : BoxState) (n : ℕ) (params : Tuple) → Rescans old n params new → CanRescan old n params → CanRescan new n params
 again_can_rescan old new n params r c =
-    let same : r.scan ≡ c.scan = some_inj r.scan c.scan (sym r.at ∙ c.at) in
+    let same : r.scan ≡ c.scan = same_Some r.scan c.scan (sym r.at ∙ c.at) in
     record {
       scan = _;
       at = ap (λ z. finmap.get z.live n) r.ledger ∙ put_same old.ledger.live n _;

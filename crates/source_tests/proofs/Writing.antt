@@ -1,19 +1,15 @@
 -- How the calls of a write go together.
 use Rattle.std.proofs.Common.{◌≡◌, ℕ, true, List, Result, Ok, Err, IfOk, IfErr, Option, Some, None, IsSome, option_map, refl, ap, sym, ◌∙◌, subst}
 use Rattle.std.specs.FinMap as finmap
+use Rattle.std.proofs.lemmas.Option.{same_Some}
 use Rattle.med_value.specs.Datum.{Tuple}
 use Rattle.med_value.specs.declared.value.ColType.{ColType}
-use Rattle.fdw_api.specs.Kinds.{Change, Inserts}
-use Rattle.fdw_api.specs.State.{BoxTable, Staging, BoxState, IsIdle, table_of}
-use Rattle.fdw_api.specs.Writes.{CanModify, Opens, CanChange, Stages, CanClose, Closes, RefusesClose, row_of_change_fits}
+use Rattle.fdw_api.specs.Prelude.{Change, Inserts, BoxTable, Staging, BoxState, IsIdle, table_of, CanModify, Opens, CanChange, Stages, CanClose, Closes, RefusesClose, row_of_change_fits}
 use Rattle.fdw_api.specs.declared.interface.Fault.{Fault}
 use Rattle.probe_wrapper.specs.declared.failing.Failure.TheVariants.{Before}
 use Rattle.probe_wrapper.specs.Counting.{counted}
 use Rattle.probe_wrapper.specs.Failing.{failed, staging_of}
 use Rattle.source_tests.specs.Writing.{IsWriting}
-
-some_inj : {A : Type 0} (a b : A) → Some a ≡ Some b → a ≡ b
-some_inj a b q = cc
 
 -- a write that was just begun may go on
 pub opened_is_writing : (old s : BoxState) (t : ℕ) (kinds : List ColType) → CanModify old t → ((bound : BoxTable) → table_of old t ≡ Some bound → bound.kinds ≡ kinds) → Opens old t s → IsWriting s t kinds
@@ -48,7 +44,7 @@ writing_can_insert s t kinds row fits w = record {
 -- and the write may go on then
 pub staged_is_writing : (s u : BoxState) (t : ℕ) (kinds : List ColType) (change : Change) → Stages s change u → IsWriting s t kinds → IsWriting u t kinds
 staged_is_writing s u t kinds change g w =
-    let same : g.staging ≡ w.staging = some_inj g.staging w.staging (sym g.is_staged ∙ w.is_staged) in
+    let same : g.staging ≡ w.staging = same_Some g.staging w.staging (sym g.is_staged ∙ w.is_staged) in
     record {
       staging = _;
       is_staged = ap (λ z. z.staged) g.ledger;

@@ -1,8 +1,7 @@
 -- A write that may go on.
 use Rattle.std.specs.Prelude.{◌≡◌, ℕ, false, List, Some}
 use Rattle.med_value.specs.declared.value.ColType.{ColType}
-use Rattle.fdw_api.specs.State.{BoxTable, Staging, BoxState, table_of}
-use Rattle.fdw_api.specs.Calls.{NoScan}
+use Rattle.fdw_api.specs.Prelude.{BoxTable, Staging, BoxState, table_of, NoScan}
 
 -- a write to a table of these types is under way and not broken, and the table has no live scan
 pub record IsWriting (s : BoxState) (t : ℕ) (kinds : List ColType) : Type 0 where

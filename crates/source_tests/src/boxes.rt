@@ -1,7 +1,6 @@
 //! Wrappers round a source.
 ghost use Rattle.std.specs.Prelude.{◌≡◌, [], List};
-ghost use Rattle.fdw_api.specs.Kinds.{Column};
-ghost use Rattle.fdw_api.specs.State.{IsIdle};
+ghost use Rattle.fdw_api.specs.Prelude.{Column, IsIdle};
 ghost use Rattle.probe_wrapper.specs.Counting.{counted};
 ghost use Rattle.probe_wrapper.specs.Failing.{failed};
 ghost use Rattle.probe_wrapper.specs.Shuffled.{reordered, turns_of};

@@ -4,8 +4,7 @@
 //! agrees to, and the rows of the two rounds. All are of one table: `id` integer, `name` text, `live` boolean.
 ghost use Rattle.std.specs.Prelude.{◌≡◌, ◌∷◌, [], codes, false, map, IfOk};
 ghost use Rattle.med_value.specs.declared.value.ColType.TheVariants as types;
-ghost use Rattle.fdw_api.specs.Kinds.{column_of};
-ghost use Rattle.fdw_api.specs.State.{IsIdle};
+ghost use Rattle.fdw_api.specs.Prelude.{column_of, IsIdle};
 
 use crate::scans::answered;
 use crate::written::written_scan;

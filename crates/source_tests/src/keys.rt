@@ -1,8 +1,7 @@
 //! Scans of the orders of a SQLite database by their keys, alone and in wrappers round it, and what they give: what the source agrees to,
 //! the rows of two rounds, and the counts of the next ticket, the live scans, the rows given and the faults.
 ghost use Rattle.std.specs.Prelude.{◌≡◌, [], List};
-ghost use Rattle.fdw_api.specs.Kinds.{Column};
-ghost use Rattle.fdw_api.specs.State.{IsIdle};
+ghost use Rattle.fdw_api.specs.Prelude.{Column, IsIdle};
 
 use crate::asked::{Asked, between, compared, n_is, null_and_then};
 use crate::boxes::{in_counting, in_shuffled};

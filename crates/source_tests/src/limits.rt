@@ -1,7 +1,6 @@
 //! Writes and scans of a database each statement of which may take a number of steps alone, and of one in a box that fails at a call.
 ghost use Rattle.std.specs.Prelude.{◌≡◌, [], List};
-ghost use Rattle.fdw_api.specs.Kinds.{Column};
-ghost use Rattle.fdw_api.specs.State.{IsIdle};
+ghost use Rattle.fdw_api.specs.Prelude.{Column, IsIdle};
 
 use crate::asked::{Asked, compared};
 use crate::boxes::in_failing;

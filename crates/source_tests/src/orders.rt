@@ -2,9 +2,7 @@
 ghost use Rattle.std.specs.Prelude.{◌≡◌, ◌∷◌, [], ℕ, true, false, List, map, Some, IfOk, OnOk};
 ghost use Rattle.med_value.specs.Datum.{tuple, Whole};
 ghost use Rattle.med_value.specs.declared.value.ColType.TheVariants.{Int};
-ghost use Rattle.fdw_api.specs.Kinds.{Column, column_of, kinds_of};
-ghost use Rattle.fdw_api.specs.State.{BoxTable, IsIdle, table_of};
-ghost use Rattle.fdw_api.specs.Writes.{CanModify};
+ghost use Rattle.fdw_api.specs.Prelude.{Column, column_of, kinds_of, BoxTable, IsIdle, table_of, CanModify};
 ghost use Rattle.sqlite.specs.Held.{state};
 ghost use Rattle.sqlite.specs.Steps.{over_memory};
 ghost use Rattle.sqlite_writes.specs.Writable.{AreApart, IsWritable};

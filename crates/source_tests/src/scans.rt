@@ -1,11 +1,7 @@
 //! Scans under a source's own agreement, and the text of what they give.
 ghost use Rattle.std.specs.Prelude.{◌≡◌, [], map, Some, IfOk, OnOk, IsSome};
 ghost use Rattle.med_value.specs.Datum.{datum};
-ghost use Rattle.fdw_api.specs.Kinds.{column_of, kinds_of};
-ghost use Rattle.fdw_api.specs.Scan.{test_form, restriction_form, test_fits, params_fit, has_kind};
-ghost use Rattle.fdw_api.specs.State.{BoxTable, IsIdle, table_of, scan_of};
-ghost use Rattle.fdw_api.specs.Calls.{CanRescan};
-ghost use Rattle.fdw_api.specs.Writes.{CanModify};
+ghost use Rattle.fdw_api.specs.Prelude.{column_of, kinds_of, test_form, restriction_form, test_fits, params_fit, has_kind, BoxTable, IsIdle, table_of, scan_of, CanRescan, CanModify};
 
 use crate::asked::Asked;
 use fdw_api::interface::{Counts, Fault, SourceRow, Ticket, Wrapper};

@@ -1,8 +1,6 @@
 //! A scan of the orders of a SQLite database by version 2 of the interface, with a wish.
 ghost use Rattle.std.specs.Prelude.{◌≡◌, [], List, IsSome, OnOk};
-ghost use Rattle.fdw_api.specs.Kinds.{Column};
-ghost use Rattle.fdw_api.specs.State.{IsIdle, scan_of, table_of};
-ghost use Rattle.fdw_api.specs.Calls.{IsOpen};
+ghost use Rattle.fdw_api.specs.Prelude.{Column, IsIdle, scan_of, table_of, IsOpen};
 
 use crate::orders::{bind_orders, new_source, write_keys};
 use crate::scans::{write_counts, write_row};

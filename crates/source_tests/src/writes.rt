@@ -1,8 +1,7 @@
 //! A write of orders and a scan behind it.
 ghost use Rattle.std.specs.Prelude.{◌≡◌, ◌∷◌, [], Some};
 ghost use Rattle.med_value.specs.declared.value.ColType.TheVariants.{Int};
-ghost use Rattle.fdw_api.specs.State.{BoxTable, table_of};
-ghost use Rattle.fdw_api.specs.Writes.{CanModify};
+ghost use Rattle.fdw_api.specs.Prelude.{BoxTable, table_of, CanModify};
 
 use crate::asked::Asked;
 use crate::orders::{KINDS, write_keys};

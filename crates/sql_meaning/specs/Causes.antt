@@ -1,37 +1,26 @@
 -- The causes of refusal that stand for a request in a world: a set of causes, with no order of checks.
 use Rattle.std.specs.Prelude.{◌≡◌, ◌<◌, ◌≤◌, ◌⊎◌, ℕ, zero, suc, Bool, true, false, List, [], ◌∷◌, map, flat_map, length, Option, Some, None, IsSome, Contains, IsPermutation, slice_get}
 use Rattle.std.specs.List.{list_any}
-use Rattle.med_value.specs.Causes.{phase_of}
+use Rattle.med_value.specs.Prelude.{phase_of, cursor_limit}
 use Rattle.med_value.specs.declared.cause.Cause.{Cause}
 use Rattle.med_value.specs.declared.cause.Cause.TheVariants.{Protocol, NoConnection, LimitExceeded, UnableToConnect, InUse, NotNull, DuplicateCursor, InvalidCursorName, FeatureNotSupported, SourceFault}
-use Rattle.med_syntax.specs.Tree.{Name}
-use Rattle.med_syntax.specs.QueryTree.{SelectTree, select}
+use Rattle.med_syntax.specs.Prelude.{Name, SelectTree, select, DdlTree, CursorTree, declare, fetch, close, GivenTree, values, rows_of, WriteTree, insert, update, delete}
 use Rattle.tri_expr.specs.declared.expr.Fault.{Fault as Wrong}
 use Rattle.tri_expr.specs.Verdict.{fault_list}
-use Rattle.med_query.specs.Query.{Query, Tables}
-use Rattle.med_query.specs.Form.{query_by, is_risky_form}
-use Rattle.fdw_api.specs.Kinds.{Kind, Entry, Holding, Held, Reading, is_late, is_of_run}
-use Rattle.fdw_api.specs.Calls.{Picks}
+use Rattle.med_query.specs.Prelude.{Query, Tables, query_by, is_risky_form, IsShownCause, wrong_cause}
+use Rattle.fdw_api.specs.Prelude.{Kind, Entry, Holding, Held, Reading, is_late, is_of_run, Picks}
 use Rattle.med_parser.specs.CommandCauses.{SyntaxCauses}
 use Rattle.bind_names.specs.Meaning.{Meant}
-use Rattle.med_query.specs.Causes.{IsShownCause, wrong_cause}
-use Rattle.med_syntax.specs.DdlTree.{DdlTree}
-use Rattle.med_syntax.specs.CursorTree.{CursorTree, declare, fetch, close}
-use Rattle.med_syntax.specs.WriteTree.{GivenTree, values, rows_of, WriteTree, insert, update, delete}
 use Rattle.med_write.specs.declared.write.WrittenColumn.{WrittenColumn}
 use Rattle.med_write.specs.Form.{WriteForm}
 use Rattle.med_write.specs.Writing.{rows_written, write_faults, write_lacks, changes_of}
 use Rattle.bind_write.specs.Meaning.{target_of, columns_in, written_column, write_meant}
 use Rattle.bind_write.specs.Naming.{WriteNames}
 use Rattle.bind_write.specs.Typing.{WriteTypes}
-use Rattle.med_catalog.specs.Objects.{TableObject, table_named}
-use Rattle.med_catalog.specs.Changes.{ObjectChange, new_server, new_table, Asks}
-use Rattle.med_catalog.specs.DdlCauses.{DdlCauses, phase}
-use Rattle.med_binder.specs.Tables.{shapes}
-use Rattle.med_binder.specs.Queries.{meant_by, QueryNames, QueryTypes}
+use Rattle.med_catalog.specs.Prelude.{TableObject, table_named, ObjectChange, new_server, new_table, Asks, DdlCauses, phase}
+use Rattle.med_binder.specs.Prelude.{shapes, meant_by, QueryNames, QueryTypes}
 use Rattle.med_parser.specs.CommandTree.{CommandTree, on_data, on_rows, on_cursors, on_objects}
 use Rattle.med_parser.specs.CommandGrammar.{HasCommand}
-use Rattle.med_value.specs.Limits.{cursor_limit}
 use Rattle.sql_meaning.specs.Picks.{Pick, PicksAnswer, IsNumbering, as_given}
 use Rattle.sql_meaning.specs.Requests.{AskedLine, opening, sql, bye, IsUser}
 use Rattle.sql_meaning.specs.World.{World, Session, IsOpen, cells_of, rows_of_place, rows_named, IsFree, Serves, is_shared_server, is_shared, is_leased}

@@ -1,9 +1,8 @@
 -- Cursors of a world: by name, and what a FETCH gives (SQL:2016, <declare cursor>, <fetch statement>, <close statement>).
 use Rattle.std.specs.Prelude.{◌≡◌, ◌<◌, ◌⊎◌, ℕ, zero, suc, Bool, false, not, List, [], ◌∷◌, ◌++◌, length, map, flat_map, find, filter, cond, Option, None, bytes_eq}
 use Rattle.med_value.specs.Datum.{Tuple}
-use Rattle.med_syntax.specs.Tree.{Name}
+use Rattle.med_syntax.specs.Prelude.{Name, CountTree, some_rows, all_rows}
 use Rattle.med_query.specs.Query.{Table, Core, Query, Tables, IsAnswer}
-use Rattle.med_syntax.specs.CursorTree.{CountTree, some_rows, all_rows}
 use Rattle.sql_meaning.specs.World.{Leased, Cursor, Session}
 
 -- the rows of each entry of the cursor's query, as they stood at DECLARE

@@ -6,3 +6,4 @@ pub mod Sizes
 pub mod Causes
 pub mod Replies
 pub mod Steps
+pub mod Prelude

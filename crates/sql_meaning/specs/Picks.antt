@@ -4,10 +4,8 @@ use Rattle.std.specs.Prelude.{◌≡◌, List, [], map, Option, None, IsPermutat
 use Rattle.std.specs.List.{IsDistinct}
 use Rattle.med_value.specs.Datum.{Tuple}
 use Rattle.med_value.specs.declared.cause.Cause.{Cause}
-use Rattle.med_query.specs.Query.{Query, Tables, IsAnswer}
-use Rattle.med_query.specs.Causes.{IsShownCause}
-use Rattle.fdw_api.specs.Kinds.{Entry, Held, held}
-use Rattle.fdw_api.specs.Scan.{TableRow, GivenRow, plain_spec, given_row}
+use Rattle.med_query.specs.Prelude.{Query, Tables, IsAnswer, IsShownCause}
+use Rattle.fdw_api.specs.Prelude.{Entry, Held, held, TableRow, GivenRow, plain_spec, given_row}
 
 pub record Pick : Type 0 where
   -- what a table's source holds under its remote name

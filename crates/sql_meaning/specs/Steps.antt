@@ -3,18 +3,13 @@ use Rattle.std.specs.Prelude.{◌≡◌, ℕ, Bool, true, false, List, [], ◌�
 use Rattle.med_value.specs.Datum.{Tuple}
 use Rattle.med_value.specs.declared.cause.Cause.{Cause}
 use Rattle.med_value.specs.declared.cause.Cause.TheVariants.{LimitExceeded, OutOfMemory, SourceFault}
-use Rattle.med_syntax.specs.QueryTree.{EntryTree, SelectTree, select}
+use Rattle.med_syntax.specs.Prelude.{EntryTree, SelectTree, select, DdlTree, create_wrapper, create_server, create_mapping, create_table, drop_wrapper, drop_server, drop_table, drop_mapping, WriteTree, insert, update, delete, CountTree, CursorTree, declare, fetch, close, Name}
 use Rattle.med_query.specs.Query.{IsAnswer}
 use Rattle.fdw_api.specs.Kinds.{Kind, Entry, Holding, Known, Unknown, Held, Reading}
-use Rattle.med_syntax.specs.DdlTree.{DdlTree, create_wrapper, create_server, create_mapping, create_table, drop_wrapper, drop_server, drop_table, drop_mapping}
-use Rattle.med_syntax.specs.WriteTree.{WriteTree, insert, update, delete}
-use Rattle.med_syntax.specs.CursorTree.{CountTree, CursorTree, declare, fetch, close}
 use Rattle.bind_names.specs.Scope.{query_entries}
 use Rattle.med_write.specs.Writing.{count_of, rows_after}
 use Rattle.bind_write.specs.Meaning.{target_of}
-use Rattle.med_syntax.specs.Tree.{Name}
-use Rattle.med_catalog.specs.Objects.{TableObject, server_named}
-use Rattle.med_catalog.specs.Changes.{ObjectChange, new_table, no_server, no_table, changed, Asks}
+use Rattle.med_catalog.specs.Prelude.{TableObject, server_named, ObjectChange, new_table, no_server, no_table, changed, Asks}
 use Rattle.med_parser.specs.CommandTree.{CommandTree, on_data, on_rows, on_cursors, on_objects}
 use Rattle.sql_meaning.specs.Cursors.{cursor_named, with_cursor, without_cursor, with_handed, Fetches}
 use Rattle.sql_meaning.specs.Picks.{Pick}

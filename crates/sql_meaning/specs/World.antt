@@ -2,14 +2,12 @@
 -- or memory is in it.
 use Rattle.std.specs.Prelude.{◌≡◌, ◌≢◌, ℕ, zero, suc, Bool, true, false, ◌||◌, List, [], ◌∷◌, ◌++◌, Option, Some, None, IsSome, find, bytes_eq, map, cond, if◌then◌else◌}
 use Rattle.std.specs.List.{list_any}
-use Rattle.med_value.specs.Datum.{Tuple}
+use Rattle.med_value.specs.Prelude.{Tuple, session_count}
 use Rattle.med_syntax.specs.Tree.{Name}
 use Rattle.med_query.specs.Query.{Query}
-use Rattle.fdw_api.specs.Kinds.{Kind, Holding, Held}
-use Rattle.fdw_api.specs.State.{set_at}
+use Rattle.fdw_api.specs.Prelude.{Kind, Holding, Held, set_at}
 use Rattle.med_catalog.specs.Objects.{ServerObject, TableObject, Objects, no_objects, server_named}
 use Rattle.med_catalog.specs.declared.kind.SourceKind.{SourceKind}
-use Rattle.med_value.specs.Limits.{session_count}
 
 -- ---- sources
 

@@ -6,14 +6,12 @@ use Rattle.std.specs.Fmt.{decimal}
 use Rattle.std.specs.Str.Parse.{digits_value}
 use Rattle.med_lexer.specs.Lexemes.{Shape, word, quoted, number, Lexeme, Lexes}
 use Rattle.med_lexer.specs.Printing.{IsShape, AreShapes}
-use Rattle.med_syntax.specs.Shapes.{shapes}
+use Rattle.med_syntax.specs.Prelude.{shapes, Name, CountTree, some_rows, all_rows, CursorTree, declare, fetch, close}
 use Rattle.expr_writer.proofs.ExprPrints.{name_shape, PrintedAgain, written_terminal, written_shape}
-use Rattle.med_syntax.specs.Tree.{Name}
 use Rattle.med_syntax.specs.Terminal as t
 use Rattle.sql_print.proofs.QueryPrints as query
 use Rattle.ddl_parser.specs.DdlGrammar.{Form, Both, Words, NameIs, IsEnd}
 use Rattle.ddl_parser.proofs.DdlPrints.{both_spelled}
-use Rattle.med_syntax.specs.CursorTree.{CountTree, some_rows, all_rows, CursorTree, declare, fetch, close}
 use Rattle.write_parser.specs.CursorGrammar.{Properties, Declaring, CountIs, FromOrIn, Fetching, Closing, IsCursor, HasCursor}
 use Rattle.write_parser.specs.CursorCauses.{fetched_in_range, cursor_in_range}
 use Rattle.sql_print.specs.CursorPrinting.{count_written, query_written, cursor_written, printed_cursor}

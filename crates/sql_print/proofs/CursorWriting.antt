@@ -4,12 +4,11 @@ use Rattle.std.specs.Prelude.{Result, Ok, Err, IfOk}
 use Rattle.std.specs.Fmt.{decimal}
 use Rattle.med_lexer.specs.Lexemes.{quoted, number}
 use Rattle.med_lexer.specs.Printing.{behind_spaces}
-use Rattle.med_syntax.specs.Terminal.{Terminal}
+use Rattle.med_syntax.specs.Prelude.{Terminal, CursorTree, declare, fetch, close}
 use Rattle.med_syntax.specs.Terminal as t
 use Rattle.expr_writer.specs.ExprPrinting.{shapes_for}
 use Rattle.expr_writer.specs.ExprPrinting as expr
 use Rattle.ddl_parser.specs.DdlPrinting.{Wrote}
-use Rattle.med_syntax.specs.CursorTree.{CursorTree, declare, fetch, close}
 use Rattle.sql_print.specs.CursorPrinting.{cursor_written, printed_cursor}
 
 pub wrote_name : (a b n : List ℕ) → expr.Wrote a b (t.Name n ∷ []) → Wrote a b (quoted n ∷ [])

@@ -6,18 +6,11 @@ use Rattle.med_lexer.specs.declared.Mark.TheVariants as marks
 use Rattle.med_lexer.specs.Lexemes.{Shape, word, quoted, literal, number, mark, Lexeme, Lexes}
 use Rattle.med_lexer.specs.Printing.{IsShape, AreShapes}
 use Rattle.med_value.specs.declared.operators.Operation.TheVariants.{Multiply}
-use Rattle.med_syntax.specs.Tree.{Name}
-use Rattle.med_syntax.specs.Shapes.{shapes}
+use Rattle.med_syntax.specs.Prelude.{Name, shapes, Terminal, terminal_of, mark_terminal, IsWord, AreWords, label_of, ExprTree, num, column_spelling, spelling, IsExpr, in_range, keywords, SpellsOthers, SpellsList, SpellsLabel, SpellsAlias, SpellsItem, SpellsEntry, SpellsOn, SpellsJoin, SpellsJoins, SpellsChain, SpellsGroup, SpellsKey, SpellsLimit, SpellsOffset, SpellsLimits, SpellsPerhaps, SpellsListed, SpellsExpr, SpellsCore, SpellsUnions, Spells, IsStatement, HasStatement, all_in_range, perhaps_in_range, item_in_range, join_in_range, chain_in_range, key_in_range, limit_in_range, count_in_range, core_in_range, statement_in_range}
 use Rattle.med_syntax.specs.Words.{is_reserved}
-use Rattle.med_syntax.specs.Terminal.{Terminal, terminal_of, mark_terminal}
-use Rattle.med_syntax.specs.QueryTerminals.{IsWord, AreWords, label_of}
 use Rattle.med_syntax.specs.Terminal as t
-use Rattle.med_syntax.specs.ExprTree.{ExprTree, num, column_spelling, spelling, IsExpr}
-use Rattle.med_syntax.specs.ExprGrammar.{in_range}
 use Rattle.expr_writer.specs.ExprPrinting.{shape_for, shapes_for}
 use Rattle.med_syntax.specs.QueryTree.{ItemTree, all, all_of, value, EntryTree, inner_join, left_join, cross_join, GroupTree, LimitTree, no_limit, rows, CoreTree, SelectTree, cores_of, StatementTree, select}
-use Rattle.med_syntax.specs.QueryGrammar.{keywords, SpellsOthers, SpellsList, SpellsLabel, SpellsAlias, SpellsItem, SpellsEntry, SpellsOn, SpellsJoin, SpellsJoins, SpellsChain, SpellsGroup, SpellsKey, SpellsLimit, SpellsOffset, SpellsLimits, SpellsPerhaps, SpellsListed, SpellsExpr, SpellsCore, SpellsUnions, Spells, IsStatement, HasStatement}
-use Rattle.med_syntax.specs.QueryCauses.{all_in_range, perhaps_in_range, item_in_range, join_in_range, chain_in_range, key_in_range, limit_in_range, count_in_range, core_in_range, statement_in_range}
 use Rattle.sql_print.specs.QueryPrinting.{alias_written, item_written, others_written, list_written, entry_written, on_written, join_written, joins_written, chain_written, group_written, flag_written, nulls_written, key_written, quantifier_written, limit_written, offset_written, perhaps_written, listed_written, clauses_written, core_written, union_written, unions_written, tail_written, statement_written, printed_statement}
 use Rattle.expr_writer.proofs.ExprPrints.{Writable, AreWritable, both_left, both_right, writable, written_terminal, says, name_shape, written_shape, PrintedAgain}
 use Rattle.med_syntax.proofs.QueryLabels.{word_label, label_is}

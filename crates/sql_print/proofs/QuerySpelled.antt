@@ -1,12 +1,9 @@
 -- What is written of a statement is spelled so.
 use Rattle.std.proofs.Common.{ℕ, inl, inr, Bool, true, false, List, [], ◌∷◌, ◌++◌, refl, codes}
 use Rattle.std.specs.Prelude.{Option, Some, None}
-use Rattle.med_syntax.specs.Tree.{Name}
-use Rattle.med_syntax.specs.Terminal.{Terminal}
+use Rattle.med_syntax.specs.Prelude.{Name, Terminal, ExprTree, spelling, keywords, SpellsOthers, SpellsList, SpellsLabel, SpellsAlias, SpellsItem, SpellsEntry, SpellsOn, SpellsJoin, SpellsJoins, SpellsChain, SpellsGroup, SpellsFlag, SpellsNulls, SpellsKey, SpellsLimit, SpellsOffset, SpellsPerhaps, SpellsListed, SpellsExpr, SpellsCore, SpellsUnions, Spells}
 use Rattle.med_syntax.specs.Terminal as t
-use Rattle.med_syntax.specs.ExprTree.{ExprTree, spelling}
 use Rattle.med_syntax.specs.QueryTree.{ItemTree, all, all_of, value, EntryTree, inner_join, left_join, cross_join, LimitTree, no_limit, rows, StatementTree, select}
-use Rattle.med_syntax.specs.QueryGrammar.{keywords, SpellsOthers, SpellsList, SpellsLabel, SpellsAlias, SpellsItem, SpellsEntry, SpellsOn, SpellsJoin, SpellsJoins, SpellsChain, SpellsGroup, SpellsFlag, SpellsNulls, SpellsKey, SpellsLimit, SpellsOffset, SpellsPerhaps, SpellsListed, SpellsExpr, SpellsCore, SpellsUnions, Spells}
 use Rattle.sql_print.specs.QueryPrinting.{alias_written, item_written, others_written, list_written, entry_written, on_written, join_written, joins_written, chain_written, group_written, flag_written, nulls_written, key_written, quantifier_written, limit_written, offset_written, perhaps_written, listed_written, core_written, unions_written, statement_written}
 
 -- ---- what is written is spelled so

@@ -3,12 +3,9 @@ use Rattle.std.proofs.Common.{◌≡◌, ℕ, List, [], ◌∷◌, ◌++◌, ref
 use Rattle.med_lexer.specs.Printing.{behind_spaces}
 use Rattle.med_syntax.specs.declared.statement.Statement.{Statement}
 use Rattle.med_syntax.specs.declared.statement.Statement.TheVariants as s
-use Rattle.med_syntax.specs.QueryView.{statement_tree}
+use Rattle.med_syntax.specs.Prelude.{statement_tree, statement_in_range, WriteTree, insert, update, delete, given_tree}
 use Rattle.expr_writer.specs.ExprPrinting.{shapes_for, Wrote}
-use Rattle.med_syntax.specs.QueryCauses.{statement_in_range}
 use Rattle.med_syntax.specs.declared.write.Given.TheVariants as g
-use Rattle.med_syntax.specs.WriteTree.{WriteTree, insert, update, delete}
-use Rattle.med_syntax.specs.WriteView.{given_tree}
 use Rattle.write_parser.specs.WriteCauses.{given_in_range}
 use Rattle.sql_print.specs.WritePrinting.{insert_written, update_written, delete_written, write_written, printed_write}
 

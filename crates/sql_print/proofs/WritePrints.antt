@@ -4,21 +4,13 @@ use Rattle.std.specs.Prelude.{Option, Some, None, map}
 use Rattle.med_value.specs.declared.order.Comparison.TheVariants.{Equal}
 use Rattle.med_lexer.specs.Lexemes.{Shape, Lexeme, Lexes}
 use Rattle.med_lexer.specs.Printing.{IsShape, AreShapes}
-use Rattle.med_syntax.specs.Tree.{Name}
+use Rattle.med_syntax.specs.Prelude.{Name, Terminal, IsTerminal, AreTerminals, ExprTree, spelling, IsExpr, EntryTree, SelectTree, select, shapes, in_range, SpellsOthers, SpellsList, SpellsAlias, SpellsEntry, SpellsExpr, all_in_range, perhaps_in_range, GivenTree, values, rows_of, UpdateTree, DeleteTree, WriteTree, insert, update, delete}
 use Rattle.med_syntax.specs.Words.{is_reserved}
-use Rattle.med_syntax.specs.Terminal.{Terminal, IsTerminal, AreTerminals}
 use Rattle.med_syntax.specs.Terminal as t
-use Rattle.med_syntax.specs.ExprTree.{ExprTree, spelling, IsExpr}
-use Rattle.med_syntax.specs.QueryTree.{EntryTree, SelectTree, select}
-use Rattle.med_syntax.specs.Shapes.{shapes}
-use Rattle.med_syntax.specs.ExprGrammar.{in_range}
 use Rattle.expr_writer.specs.ExprPrinting.{shape_for, shapes_for}
 use Rattle.expr_writer.proofs.ExprPrints.{Writable, AreWritable, both_left, both_right, writable, written_terminal, says, written_shape, PrintedAgain}
-use Rattle.med_syntax.specs.QueryGrammar.{SpellsOthers, SpellsList, SpellsAlias, SpellsEntry, SpellsExpr}
-use Rattle.med_syntax.specs.QueryCauses.{all_in_range, perhaps_in_range}
 use Rattle.sql_print.specs.QueryPrinting.{alias_written, entry_written, others_written, list_written, select_written}
 use Rattle.sql_print.proofs.QueryPrints as query
-use Rattle.med_syntax.specs.WriteTree.{GivenTree, values, rows_of, UpdateTree, DeleteTree, WriteTree, insert, update, delete}
 use Rattle.write_parser.specs.WriteGrammar.{SpellsTuple, SpellsName, SpellsColumns, SpellsTarget, SpellsValues, SpellsInsert, SpellsSet, SpellsWhere, SpellsUpdate, SpellsDelete, IsLineOf, IsInsert, IsWrite, HasWrite}
 use Rattle.write_parser.specs.WriteCauses.{row_in_range, given_in_range, set_in_range, update_in_range, delete_in_range, write_in_range}
 use Rattle.sql_print.specs.WritePrinting.{tuple_written, name_written, columns_written, target_written, row_written, given_written, set_written, where_written, sets_written, update_written, delete_written, write_written, printed_write}

@@ -1,13 +1,9 @@
 -- What is written of a statement that writes rows is spelled so.
 use Rattle.std.proofs.Common.{List, [], ◌∷◌, ◌++◌, refl, codes}
 use Rattle.std.specs.Prelude.{Option, Some, None}
-use Rattle.med_syntax.specs.Tree.{Name}
-use Rattle.med_syntax.specs.Terminal.{Terminal}
-use Rattle.med_syntax.specs.ExprTree.{ExprTree, spelling}
-use Rattle.med_syntax.specs.QueryGrammar.{SpellsExpr}
+use Rattle.med_syntax.specs.Prelude.{Name, Terminal, ExprTree, spelling, SpellsExpr, values, UpdateTree, DeleteTree}
 use Rattle.sql_print.specs.QueryPrinting.{entry_written, list_written}
 use Rattle.sql_print.proofs.QuerySpelled.{Spelled, list_spelled, condition_spelled, entry_spelled}
-use Rattle.med_syntax.specs.WriteTree.{values, UpdateTree, DeleteTree}
 use Rattle.write_parser.specs.WriteGrammar.{SpellsTuple, SpellsName, SpellsColumns, SpellsTarget, SpellsValues, SpellsInsert, SpellsSet, SpellsUpdate, SpellsDelete}
 use Rattle.sql_print.specs.WritePrinting.{tuple_written, name_written, columns_written, target_written, row_written, given_written, set_written, where_written, update_written, delete_written}
 

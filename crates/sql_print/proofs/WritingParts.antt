@@ -1,10 +1,9 @@
 -- Parts of a statement written one after the other.
 use Rattle.std.proofs.Common.{◌≡◌, ℕ, List, [], ◌∷◌, ◌++◌, sym, ◌∙◌, ap, append_assoc}
 use Rattle.med_lexer.specs.Printing.{behind_spaces}
-use Rattle.med_syntax.specs.Terminal.{Terminal}
+use Rattle.med_syntax.specs.Prelude.{Terminal, ItemTree, JoinTree, ChainTree, GroupTree, KeyTree, CoreTree, StatementTree, select}
 use Rattle.med_syntax.specs.Terminal as t
 use Rattle.expr_writer.specs.ExprPrinting.{shapes_for, Wrote}
-use Rattle.med_syntax.specs.QueryTree.{ItemTree, JoinTree, ChainTree, GroupTree, KeyTree, CoreTree, StatementTree, select}
 use Rattle.sql_print.specs.QueryPrinting.{item_written, others_written, join_written, joins_written, chain_written, group_written, key_written, union_written, unions_written, select_written, statement_written, printed_statement}
 use Rattle.expr_writer.proofs.ExprPrints.{wrote_more, spaces_append}
 

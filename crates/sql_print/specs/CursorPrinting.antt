@@ -4,10 +4,9 @@ use Rattle.std.specs.Prelude.{ℕ, List, [], ◌∷◌, codes}
 use Rattle.std.specs.Fmt.{decimal}
 use Rattle.med_lexer.specs.Lexemes.{Shape, word, quoted, number}
 use Rattle.med_lexer.specs.Printing.{printed}
-use Rattle.med_syntax.specs.QueryTree.{StatementTree}
+use Rattle.med_syntax.specs.Prelude.{StatementTree, CountTree, some_rows, all_rows, CursorTree, declare, fetch, close}
 use Rattle.expr_writer.specs.ExprPrinting.{shapes_for}
 use Rattle.sql_print.specs.QueryPrinting.{statement_written}
-use Rattle.med_syntax.specs.CursorTree.{CountTree, some_rows, all_rows, CursorTree, declare, fetch, close}
 
 -- ---- the tokens that a statement is written by
 

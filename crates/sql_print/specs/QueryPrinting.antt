@@ -5,13 +5,10 @@ use Rattle.med_lexer.specs.Printing.{printed}
 use Rattle.med_value.specs.declared.operators.Operation.TheVariants.{Multiply}
 use Rattle.sql_print.specs.declared.query_words.Keyword.{Keyword}
 use Rattle.sql_print.specs.declared.query_words.Keyword.TheVariants as k
-use Rattle.med_syntax.specs.Tree.{Name}
-use Rattle.med_syntax.specs.Terminal.{Terminal}
+use Rattle.med_syntax.specs.Prelude.{Name, Terminal, ExprTree, column_spelling, spelling, keywords}
 use Rattle.med_syntax.specs.Terminal as t
-use Rattle.med_syntax.specs.ExprTree.{ExprTree, column_spelling, spelling}
 use Rattle.expr_writer.specs.ExprPrinting.{shapes_for}
 use Rattle.med_syntax.specs.QueryTree.{ItemTree, all, all_of, value, EntryTree, JoinTree, inner_join, left_join, cross_join, ChainTree, GroupTree, KeyTree, LimitTree, no_limit, rows, CoreTree, SelectTree, StatementTree, select}
-use Rattle.med_syntax.specs.QueryGrammar.{keywords}
 
 abbrev pub keyword_word : Keyword → List ℕ
 keyword_word k.Select = codes "select"

@@ -3,14 +3,10 @@
 use Rattle.std.specs.Prelude.{ℕ, List, [], ◌∷◌, ◌++◌, codes, Option, Some, None}
 use Rattle.med_value.specs.declared.order.Comparison.TheVariants.{Equal}
 use Rattle.med_lexer.specs.Printing.{printed}
-use Rattle.med_syntax.specs.Tree.{Name}
-use Rattle.med_syntax.specs.Terminal.{Terminal}
+use Rattle.med_syntax.specs.Prelude.{Name, Terminal, ExprTree, spelling, keywords, GivenTree, values, rows_of, InsertTree, SetTree, UpdateTree, DeleteTree, WriteTree, insert, update, delete}
 use Rattle.med_syntax.specs.Terminal as t
-use Rattle.med_syntax.specs.ExprTree.{ExprTree, spelling}
 use Rattle.expr_writer.specs.ExprPrinting.{shapes_for}
-use Rattle.med_syntax.specs.QueryGrammar.{keywords}
 use Rattle.sql_print.specs.QueryPrinting.{entry_written, list_written, perhaps_written, select_written}
-use Rattle.med_syntax.specs.WriteTree.{GivenTree, values, rows_of, InsertTree, SetTree, UpdateTree, DeleteTree, WriteTree, insert, update, delete}
 
 -- ( x {, x} )
 abbrev pub tuple_written : {X : Type 0} → (X → List Terminal) → List X → List Terminal

@@ -4,11 +4,9 @@
 ghost use Rattle.write_parser.specs.CursorCauses.{cursor_in_range};
 ghost use Rattle.write_parser.specs.CursorGrammar.{HasCursor};
 ghost use Rattle.sql_print.specs.CursorPrinting.{count_written, cursor_written, query_written, printed_cursor};
-ghost use Rattle.med_syntax.specs.CursorTree.{fetch};
-ghost use Rattle.med_syntax.specs.CursorView.{count_tree, cursor_tree};
+ghost use Rattle.med_syntax.specs.Prelude.{fetch, count_tree, cursor_tree, statement_tree};
 ghost use Rattle.ddl_parser.specs.DdlPrinting.{Writes};
 ghost use Rattle.med_lexer.specs.Lexemes.{quoted, word};
-ghost use Rattle.med_syntax.specs.QueryView.{statement_tree};
 ghost use Rattle.std.specs.Prelude.{◌≡◌, ◌∷◌, [], ℕ, IfOk, List, codes, true};
 ghost use Rattle.std.specs.String.{string_bytes};
 

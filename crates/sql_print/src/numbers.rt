@@ -1,9 +1,6 @@
 //! Whether each number of a query is one that a value can have: at most 2^63 - 1, and directly behind a unary minus at most 2^63.
 
-ghost use Rattle.med_syntax.specs.ExprGrammar.{in_range};
-ghost use Rattle.med_syntax.specs.ExprView.{expr_tree};
-ghost use Rattle.med_syntax.specs.QueryView.{item_tree, items_tree, join_tree, chain_tree, core_tree, key_tree, limit_tree, select_tree, statement_tree};
-ghost use Rattle.med_syntax.specs.QueryCauses.{all_in_range, perhaps_in_range, item_in_range, join_in_range, chain_in_range, key_in_range, limit_in_range, count_in_range, core_in_range, select_in_range, statement_in_range};
+ghost use Rattle.med_syntax.specs.Prelude.{in_range, expr_tree, item_tree, items_tree, join_tree, chain_tree, core_tree, key_tree, limit_tree, select_tree, statement_tree, all_in_range, perhaps_in_range, item_in_range, join_in_range, chain_in_range, key_in_range, limit_in_range, count_in_range, core_in_range, select_in_range, statement_in_range};
 ghost use Rattle.std.specs.Prelude.{◌≡◌, map, option_map};
 
 use med_syntax::number_range::is_in_range;

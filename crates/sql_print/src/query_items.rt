@@ -2,9 +2,7 @@
 #![tactic(auto, using(crate::proofs::Writing::wrote_one, crate::proofs::Writing::wrote_none, crate::proofs::Writing::wrote_then, crate::proofs::Writing::wrote_more, crate::proofs::Writing::then_if, crate::proofs::Writing::more_if, crate::proofs::Writing::wrote_all, crate::proofs::WritingParts::items_next))]
 
 ghost use Rattle.expr_writer.specs.ExprPrinting.{Writes};
-ghost use Rattle.med_syntax.specs.ExprTree.{spelling};
-ghost use Rattle.med_syntax.specs.ExprView.{expr_tree};
-ghost use Rattle.med_syntax.specs.QueryView.{item_tree, items_tree};
+ghost use Rattle.med_syntax.specs.Prelude.{spelling, expr_tree, item_tree, items_tree};
 ghost use Rattle.sql_print.specs.QueryPrinting.{alias_written, item_written, others_written, list_written, quantifier_written};
 ghost use Rattle.std.specs.Prelude.{◌++◌, option_map};
 ghost use Rattle.std.specs.String.{string_bytes};

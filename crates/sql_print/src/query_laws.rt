@@ -1,9 +1,7 @@
 //! The law of printed statements: the contract of a function that does nothing.
 
 ghost use Rattle.std.specs.Prelude.{◌≡◌, ℕ, true, List};
-ghost use Rattle.med_syntax.specs.QueryTree.{StatementTree};
-ghost use Rattle.med_syntax.specs.QueryGrammar.{HasStatement};
-ghost use Rattle.med_syntax.specs.QueryCauses.{statement_in_range};
+ghost use Rattle.med_syntax.specs.Prelude.{StatementTree, HasStatement, statement_in_range};
 ghost use Rattle.sql_print.specs.QueryPrinting as printing;
 
 use med_lexer::{printed_again, tokens_can_be_printed};

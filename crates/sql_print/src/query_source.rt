@@ -2,10 +2,7 @@
 #![tactic(auto, using(crate::proofs::Writing::wrote_one, crate::proofs::Writing::wrote_none, crate::proofs::Writing::wrote_then, crate::proofs::Writing::wrote_more, crate::proofs::Writing::then_if, crate::proofs::Writing::more_if, crate::proofs::Writing::wrote_all, crate::proofs::WritingParts::chains_next, crate::proofs::WritingParts::joins_next))]
 
 ghost use Rattle.expr_writer.specs.ExprPrinting.{Writes};
-ghost use Rattle.med_syntax.specs.ExprTree.{spelling};
-ghost use Rattle.med_syntax.specs.ExprView.{expr_tree};
-ghost use Rattle.med_syntax.specs.QueryTree.{left_join, cross_join};
-ghost use Rattle.med_syntax.specs.QueryView.{entry_tree, join_tree, chain_tree};
+ghost use Rattle.med_syntax.specs.Prelude.{spelling, expr_tree, left_join, cross_join, entry_tree, join_tree, chain_tree};
 ghost use Rattle.med_syntax.specs.Terminal as t;
 ghost use Rattle.sql_print.specs.QueryPrinting.{others_written, listed_written};
 ghost use Rattle.sql_print.specs.QueryPrinting.{entry_written, on_written, join_written, joins_written, chain_written};

@@ -2,11 +2,7 @@
 #![tactic(auto, using(crate::proofs::Writing::wrote_one, crate::proofs::Writing::wrote_none, crate::proofs::Writing::wrote_then, crate::proofs::Writing::wrote_more, crate::proofs::Writing::then_if, crate::proofs::Writing::more_if, crate::proofs::Writing::wrote_all))]
 
 ghost use Rattle.expr_writer.specs.ExprPrinting.{Writes};
-ghost use Rattle.med_syntax.specs.ExprTree.{spelling};
-ghost use Rattle.med_syntax.specs.ExprView.{expr_tree};
-ghost use Rattle.med_syntax.specs.QueryView.{core_tree, select_tree, statement_tree};
-ghost use Rattle.med_syntax.specs.QueryCauses.{statement_in_range};
-ghost use Rattle.med_syntax.specs.QueryGrammar.{HasStatement};
+ghost use Rattle.med_syntax.specs.Prelude.{spelling, expr_tree, core_tree, select_tree, statement_tree, statement_in_range, HasStatement};
 ghost use Rattle.sql_print.specs.QueryPrinting.{keyword_word, perhaps_written};
 ghost use Rattle.sql_print.specs.QueryPrinting.{clauses_written, core_written, union_written, unions_written, select_written, statement_written, printed_statement};
 ghost use Rattle.std.specs.Prelude.{◌≡◌, ◌∷◌, [], ℕ, List, IfOk, true, map, option_map};

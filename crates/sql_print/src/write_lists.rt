@@ -2,13 +2,11 @@
 #![tactic(auto, using(crate::proofs::Writing::wrote_one, crate::proofs::Writing::wrote_none, crate::proofs::Writing::wrote_then, crate::proofs::Writing::wrote_more, crate::proofs::Writing::then_if, crate::proofs::Writing::more_if, crate::proofs::Writing::wrote_all))]
 
 ghost use Rattle.expr_writer.specs.ExprPrinting.{Writes};
-ghost use Rattle.med_syntax.specs.ExprTree.{spelling};
-ghost use Rattle.med_syntax.specs.ExprView.{expr_tree};
+ghost use Rattle.med_syntax.specs.Prelude.{spelling, expr_tree, names_tree, row_tree, set_tree};
 ghost use Rattle.sql_print.specs.QueryPrinting.{list_written, others_written};
 ghost use Rattle.std.specs.Prelude.{◌++◌, map, option_map};
 ghost use Rattle.std.specs.String.{string_bytes};
 ghost use Rattle.sql_print.specs.WritePrinting.{columns_written, name_written, row_written, set_written, tuple_written};
-ghost use Rattle.med_syntax.specs.WriteView.{names_tree, row_tree, set_tree};
 
 use expr_writer::{Fixed, write, write_fixed, write_name};
 use med_syntax::{Expr, SetClause};

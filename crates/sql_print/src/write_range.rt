@@ -1,11 +1,8 @@
 //! Whether the numbers of a statement that writes rows are in range.
 
-ghost use Rattle.med_syntax.specs.ExprGrammar.{in_range};
-ghost use Rattle.med_syntax.specs.ExprView.{expr_tree};
-ghost use Rattle.med_syntax.specs.QueryCauses.{all_in_range};
+ghost use Rattle.med_syntax.specs.Prelude.{in_range, expr_tree, all_in_range, given_tree, row_tree, set_tree, write_tree};
 ghost use Rattle.std.specs.Prelude.{◌≡◌, map};
 ghost use Rattle.write_parser.specs.WriteCauses.{given_in_range, row_in_range, set_in_range, write_in_range};
-ghost use Rattle.med_syntax.specs.WriteView.{given_tree, row_tree, set_tree, write_tree};
 
 use crate::{is_condition_in_range, is_statement_in_range};
 use med_syntax::number_range::is_in_range;

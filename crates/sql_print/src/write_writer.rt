@@ -7,8 +7,7 @@ ghost use Rattle.std.specs.String.{string_bytes};
 ghost use Rattle.write_parser.specs.WriteCauses.{write_in_range};
 ghost use Rattle.write_parser.specs.WriteGrammar.{HasWrite};
 ghost use Rattle.sql_print.specs.WritePrinting.{delete_written, given_written, insert_written, printed_write, sets_written, target_written, update_written, write_written};
-ghost use Rattle.med_syntax.specs.WriteTree.{values};
-ghost use Rattle.med_syntax.specs.WriteView.{delete_tree, given_tree, insert_tree, names_tree, row_tree, update_tree, write_tree};
+ghost use Rattle.med_syntax.specs.Prelude.{values, delete_tree, given_tree, insert_tree, names_tree, row_tree, update_tree, write_tree};
 
 use crate::write_laws::printed_write;
 use crate::write_lists::{write_columns, write_rows, write_sets};

@@ -1,16 +1,14 @@
 -- What the reading of a remote table shows, from what was found of it.
 use Rattle.std.proofs.Common.{◌≡◌, ◌≢◌, ℕ, Bool, true, false, ◌&&◌, if◌then◌else◌, nat_eq, nat_lt, List, [], ◌∷◌, map, length, zero, suc, Option, Some, None, option_map, Contains, refl, ap, sym, ◌∙◌, subst, arith}
 use Rattle.std.specs.List.{list_all}
+use Rattle.std.proofs.lemmas.Bool.{and_parts}
 use Rattle.sqlite.specs.Effect.{Database}
-use Rattle.med_value.specs.Datum.{Tuple}
-use Rattle.med_value.specs.Causes.{phase_of}
+use Rattle.med_value.specs.Prelude.{Tuple, phase_of}
 use Rattle.med_value.specs.declared.value.ColType.{ColType}
 use Rattle.med_value.specs.declared.value.ColType.TheVariants as types
 use Rattle.med_value.specs.declared.cause.Cause.{Cause}
 use Rattle.med_value.specs.declared.cause.Cause.TheVariants.{TableNotFound, InvalidDataType}
-use Rattle.fdw_api.specs.Calls.{IsLeast}
-use Rattle.fdw_api.specs.Scan.{row_fits}
-use Rattle.fdw_api.specs.Kinds.{Entry, Bytes, Stored, is_late, is_of_run}
+use Rattle.fdw_api.specs.Prelude.{IsLeast, row_fits, Entry, Bytes, Stored, is_late, is_of_run}
 use Rattle.sqlite_tables.specs.Layouts.{Layout, kinds_in, same_type, types_match}
 use Rattle.sqlite_tables.specs.Cells.{rows_in}
 use Rattle.sqlite_tables.specs.Readings.{content_causes, read_rows, sqlite_reading}
@@ -33,15 +31,11 @@ one_type types.Bool types.Int e = absurd cc
 one_type types.Bool types.Text e = absurd cc
 one_type types.Bool types.Bool e = refl
 
-both : (a b : Bool) → (a && b) ≡ true → (a ≡ true) × (b ≡ true)
-both true b e = (refl, e)
-both false b e = absurd cc
-
 pub same_types : (xs ys : List ColType) → types_match xs ys ≡ true → ys ≡ xs
 same_types [] [] e = refl
 same_types [] (y ∷ ys) e = absurd cc
 same_types (x ∷ xs) [] e = absurd cc
-same_types (x ∷ xs) (y ∷ ys) e = let w = both (same_type x y) (types_match xs ys) e in rw (one_type x y w.0, same_types xs ys w.1) refl
+same_types (x ∷ xs) (y ∷ ys) e = let w = and_parts (same_type x y) (types_match xs ys) e in rw (one_type x y w.0, same_types xs ys w.1) refl
 
 matched : (own declared : List ColType) (rows : List Tuple) → types_match own declared ≡ true
     → (sqlite_reading declared (Some (Stored own rows))).causes ≡ content_causes (list_all (row_fits own) rows) (nat_lt 1000000 (length rows))
@@ -85,8 +79,8 @@ is_phase p (Some q) e = let s : q ≡ p = grind arith in ap Some s
 
 one_of : (p : Cause → Bool) (cs : List Cause) (c : Cause) → Contains cs c → list_all p cs ≡ true → p c ≡ true
 one_of p [] c (k, lt, is) all = absurd (omega (arith, lt))
-one_of p (d ∷ cs) c (zero, lt, is) all = subst (λ (z : Cause). p z ≡ true) is (both (p d) (list_all p cs) all).0
-one_of p (d ∷ cs) c (suc k, lt, is) all = one_of p cs c (k, omega (arith, lt), is) (both (p d) (list_all p cs) all).1
+one_of p (d ∷ cs) c (zero, lt, is) all = subst (λ (z : Cause). p z ≡ true) is (and_parts (p d) (list_all p cs) all).0
+one_of p (d ∷ cs) c (suc k, lt, is) all = one_of p cs c (k, omega (arith, lt), is) (and_parts (p d) (list_all p cs) all).1
 
 -- of causes of one phase each is one of the least
 least_of : (p : ℕ) (cs : List Cause) (c : Cause) → list_all (λ d. phase_is p (phase_of d)) cs ≡ true → Contains cs c → IsLeast cs c

@@ -11,3 +11,4 @@ pub mod Memory
 pub mod Readings
 pub mod Surveys
 pub mod Lookups
+pub mod Prelude

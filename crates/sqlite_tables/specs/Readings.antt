@@ -2,14 +2,11 @@
 use Rattle.std.specs.Prelude.{◌≡◌, Bool, true, false, ◌&&◌, List, [], ◌∷◌, map, length, Option, Some, None, if◌then◌else◌, nat_lt}
 use Rattle.std.specs.List.{list_all}
 use mathlib.Core.Path.{refl, ap, ◌∙◌, sym, subst}
-use Rattle.med_value.specs.Datum.{Tuple}
+use Rattle.med_value.specs.Prelude.{Tuple, phase_of, row_limit}
 use Rattle.med_value.specs.declared.value.ColType.{ColType}
 use Rattle.med_value.specs.declared.cause.Cause.{Cause}
 use Rattle.med_value.specs.declared.cause.Cause.TheVariants.{TableNotFound, InvalidDataType, InvalidText, TooLarge}
-use Rattle.med_value.specs.Causes.{phase_of}
-use Rattle.med_value.specs.Limits.{row_limit}
-use Rattle.fdw_api.specs.Scan.{row_fits}
-use Rattle.fdw_api.specs.Kinds.{Entry, Bytes, Stored, Held, Reading, all_fit, is_late}
+use Rattle.fdw_api.specs.Prelude.{row_fits, Entry, Bytes, Stored, Held, Reading, all_fit, is_late}
 use Rattle.sqlite_tables.specs.Layouts.{types_match}
 
 abbrev pub plain_rows : List Tuple → List Held

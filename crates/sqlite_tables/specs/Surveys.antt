@@ -4,11 +4,9 @@ use Rattle.std.specs.List.{list_all}
 use Rattle.sqlite.specs.Order.{Row as SqlRow}
 use Rattle.sqlite_tables.specs.StoreShapes.{range_of}
 use Rattle.med_value.specs.declared.cause.Cause.{Cause}
-use Rattle.fdw_api.specs.Scan.{row_fits}
-use Rattle.med_value.specs.Datum.{Tuple}
-use Rattle.med_value.specs.Limits.{row_limit}
+use Rattle.fdw_api.specs.Prelude.{row_fits, Column, kinds_of}
+use Rattle.med_value.specs.Prelude.{Tuple, row_limit}
 use Rattle.sqlite.specs.Effect.{Database}
-use Rattle.fdw_api.specs.Kinds.{Column, kinds_of}
 use Rattle.sqlite_tables.specs.Layouts.{Layout, kinds_in, layout_at}
 use Rattle.sqlite_tables.specs.Tables.{entry_of}
 use Rattle.sqlite_tables.specs.Readings.{content_causes, sqlite_reading}

@@ -15,8 +15,7 @@ use Rattle.sqlite_trees.specs.Tree.{Trees}
 use Rattle.sqlite_resolve.specs.declared.error.CompileError.{CompileError}
 use Rattle.sqlite_tables.specs.StoreShapes.{IsPageText, command_of, range_of}
 use Rattle.sqlite_tables.specs.Steady.{IsCleanAfter}
-use Rattle.fdw_api.specs.Scan.{TableRow}
-use Rattle.fdw_api.specs.Kinds.{Entry, Stored}
+use Rattle.fdw_api.specs.Prelude.{TableRow, Entry, Stored}
 use Rattle.sqlite_tables.specs.Layouts.{Layout, kinds_in, layout_at}
 use Rattle.sqlite_tables.specs.Cells.{rows_in, key_in}
 use Rattle.sqlite_tables.specs.Fitting.{is_of_shape}

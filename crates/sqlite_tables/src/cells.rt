@@ -1,11 +1,9 @@
 //! Stored cells as values.
 ghost use Rattle.std.specs.Prelude.{◌≡◌, ◌≢◌, ◌≤◌, true, false, [], ◌∷◌, Some, None, length, IfOk, IfErr, IfSome};
 ghost use Rattle.sqlite.specs.Order.{column};
-ghost use Rattle.med_value.specs.Datum.{datum};
-ghost use Rattle.fdw_api.specs.Scan.{cell_fits};
+ghost use Rattle.med_value.specs.Prelude.{datum, tuple};
+ghost use Rattle.fdw_api.specs.Prelude.{cell_fits, row_fits};
 ghost use Rattle.sqlite.specs.declared.types.Value.TheVariants.{Text};
-ghost use Rattle.med_value.specs.Datum.{tuple};
-ghost use Rattle.fdw_api.specs.Scan.{row_fits};
 ghost use Rattle.sqlite_tables.specs.Layouts.{layout_at, kinds_in};
 ghost use Rattle.sqlite_tables.specs.Cells.{truth_of, cell_of, page_cells, key_in, has_key, is_row};
 

@@ -2,10 +2,8 @@
 ghost use Rattle.std.specs.Prelude.{◌≡◌, ◌≤◌, true, false, [], length, map, nat_eq, IfOk, IfErr, OnOk};
 ghost use Rattle.std.specs.List.{IsDistinct};
 ghost use Rattle.sqlite.specs.Held.{state};
-ghost use Rattle.med_value.specs.Causes.{phase_of};
-ghost use Rattle.med_value.specs.Limits.{row_limit};
-ghost use Rattle.fdw_api.specs.Calls.{IsLeast};
-ghost use Rattle.fdw_api.specs.Kinds.{column_of, kinds_of, is_late};
+ghost use Rattle.med_value.specs.Prelude.{phase_of, row_limit};
+ghost use Rattle.fdw_api.specs.Prelude.{IsLeast, column_of, kinds_of, is_late};
 ghost use Rattle.sqlite_tables.specs.Layouts.{layout_at, kinds_in, types_match};
 ghost use Rattle.sqlite_tables.specs.Fitting.{is_of_shape};
 ghost use Rattle.sqlite_tables.specs.Tables.{IsKnown, IsSure, ReadsOnly, rows_of};

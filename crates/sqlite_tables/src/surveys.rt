@@ -2,11 +2,9 @@
 ghost use Rattle.std.specs.Prelude.{◌≡◌, ◌<◌, ◌≤◌, ◌^◌, length, true, false, [], Some, IfOk, IfErr, IfSome, OnOk, Contains};
 ghost use Rattle.std.specs.List.{list_all};
 ghost use Rattle.sqlite.specs.Held.{state};
-ghost use Rattle.med_value.specs.Causes.{phase_of};
+ghost use Rattle.med_value.specs.Prelude.{phase_of, row_limit};
 ghost use Rattle.med_value.specs.declared.cause.Cause.TheVariants.{InvalidText};
-ghost use Rattle.med_value.specs.Limits.{row_limit};
-ghost use Rattle.fdw_api.specs.Calls.{not_refused};
-ghost use Rattle.fdw_api.specs.Kinds.{is_of_run};
+ghost use Rattle.fdw_api.specs.Prelude.{not_refused, is_of_run};
 ghost use Rattle.sqlite_tables.specs.StoreShapes.{range_of};
 ghost use Rattle.sqlite_tables.specs.Layouts.{layout_at};
 ghost use Rattle.sqlite_tables.specs.Cells.{greatest};

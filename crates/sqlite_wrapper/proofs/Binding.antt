@@ -10,18 +10,10 @@ use Rattle.med_value.specs.declared.cause.Cause.TheVariants.{TableNotFound}
 use Rattle.fdw_api.specs.declared.interface.Fault.{Fault}
 use Rattle.fdw_api.specs.declared.interface.Fault.TheVariants.{NoMemory, Source, Refused}
 use Rattle.med_value.specs.declared.value.ColType.{ColType}
-use Rattle.sqlite_tables.specs.StoreShapes.{range_of}
-use Rattle.fdw_api.specs.Kinds.{Column, OptionForm, Stored, Held, held, kinds_of, is_late}
-use Rattle.fdw_api.specs.State.{BoxTable, BoxState}
-use Rattle.fdw_api.specs.Calls.{CanBind, Binds, BindCause, IsLeast, Refuses, RefusesBind, Leaves, none_of, faults_after}
-use Rattle.sqlite_tables.specs.Layouts.{Layout, kinds_in, layout_at, layout_count, place_of, types_match}
+use Rattle.sqlite_tables.specs.Prelude.{range_of, Layout, kinds_in, layout_at, layout_count, place_of, types_match, row_in, rows_in, least, greatest, tree_found, entry_of, rows_of, entries_at, OnlyBy, plain_rows, sqlite_reading, causes_of}
+use Rattle.fdw_api.specs.Prelude.{Column, OptionForm, Stored, Held, held, kinds_of, is_late, BoxTable, BoxState, CanBind, Binds, BindCause, IsLeast, Refuses, RefusesBind, Leaves, none_of, faults_after}
 use Rattle.sqlite_tables.proofs.Places.{place_named}
-use Rattle.sqlite_tables.specs.Cells.{row_in, rows_in, least, greatest}
-use Rattle.sqlite_tables.specs.Tables.{tree_found, entry_of, rows_of, entries_at}
 use Rattle.sqlite_tables.proofs.Found.{found_is_read}
-use Rattle.sqlite_tables.specs.Refusing.{OnlyBy}
-use Rattle.sqlite_tables.specs.Readings.{plain_rows, sqlite_reading}
-use Rattle.sqlite_tables.specs.Surveys.{causes_of}
 use Rattle.sqlite_tables.proofs.Opened.{same_types, least_told}
 use Rattle.sqlite_wrapper.specs.declared.scans.KeyScan.{KeyScan}
 use Rattle.wrapper_parts.specs.declared.changes.StagedWrite.{StagedWrite}

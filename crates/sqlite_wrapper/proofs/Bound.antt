@@ -3,8 +3,7 @@ use Rattle.std.proofs.Common.{◌≡◌, ◌≢◌, ℕ, ◌<◌, ◌⊎◌, Boo
 use Rattle.std.specs.BTreeMap.{BTreeMap}
 use Rattle.std.proofs.lemmas.Bool.Decides.{eqb_tells}
 use Rattle.sqlite.specs.Effect.{Database}
-use Rattle.fdw_api.specs.State.{BoxTable, set_at}
-use Rattle.fdw_api.specs.Calls.{Unbinds}
+use Rattle.fdw_api.specs.Prelude.{BoxTable, set_at, Unbinds}
 use Rattle.sqlite_wrapper.specs.declared.scans.KeyScan.{KeyScan}
 use Rattle.wrapper_parts.specs.declared.changes.StagedWrite.{StagedWrite}
 use Rattle.sqlite_wrapper.specs.Boxes.{marked_bound, sqlite_state}

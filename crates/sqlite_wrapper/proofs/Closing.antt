@@ -3,28 +3,21 @@ use Rattle.std.proofs.Common.{◌≡◌, ◌≢◌, ◌∙◌, ℕ, ◌<◌, Boo
 use Rattle.std.specs.Ordering.{nat_cmp}
 use Rattle.std.specs.BTreeMap as tree
 use Rattle.std.specs.BTreeMap.{BTreeMap}
+use Rattle.std.proofs.lemmas.Bool.{and_parts}
+use Rattle.std.proofs.lemmas.Option.{same_Some}
 use Rattle.sqlite.specs.Effect.{Database}
 use Rattle.sqlite.specs.Schema.{Schema}
 use Rattle.sqlite.specs.Order.{Row as SqlRow}
 use Rattle.med_value.specs.Causes.{phase_of}
-use Rattle.fdw_api.specs.Calls.{none_of, faults_after, Leaves}
-use Rattle.fdw_api.specs.Kinds.{Change, Entry, Stored, Held, Holding, Known, held, is_of_run}
-use Rattle.fdw_api.specs.Scan.{TableRow, first_of}
-use Rattle.fdw_api.specs.State.{BoxTable, BoxState, Staging, scan_of}
-use Rattle.fdw_api.specs.Writes.{CanClose, Closes, CloseCause, RefusesClose, Written}
+use Rattle.fdw_api.specs.Prelude.{none_of, faults_after, Leaves, Change, Entry, Stored, Held, Holding, Known, held, is_of_run, TableRow, first_of, BoxTable, BoxState, Staging, scan_of, CanClose, Closes, CloseCause, RefusesClose, Written}
 use Rattle.fdw_api.specs.declared.interface.Fault.{Fault}
 use Rattle.fdw_api.specs.declared.interface.Fault.TheVariants.{NoMemory, Source, Refused}
 use Rattle.wrapper_parts.specs.Staged.{change_is, write_is}
 use Rattle.wrapper_parts.specs.declared.changes.StagedWrite.{StagedWrite}
-use Rattle.sqlite_tables.specs.Cells.{rows_in}
-use Rattle.sqlite_tables.specs.Layouts.{Layout, kinds_in, layout_at, layout_count, place_of}
-use Rattle.sqlite_tables.specs.Fitting.{is_of_shape}
-use Rattle.sqlite_tables.specs.Refusing.{OnlyBy}
-use Rattle.sqlite_tables.specs.Tables.{IsKnown, entries_at, entries_in, entries_of, entry_of, rows_of, tree_found, tree_of}
+use Rattle.sqlite_tables.specs.Prelude.{rows_in, Layout, kinds_in, layout_at, layout_count, place_of, is_of_shape, OnlyBy, IsKnown, entries_at, entries_in, entries_of, entry_of, rows_of, tree_found, tree_of, IsLookup}
 use Rattle.sqlite_writes.specs.Kinds.{write_causes}
 use Rattle.sqlite_writes.specs.Writable.{AreApart}
 use Rattle.sqlite_wrapper.specs.Boxes.{allows, asked_of, bound_of, entry_at, given_of, held_in, marked_bound, rows_at, scan_is, scan_rows, sqlite_state, to_come}
-use Rattle.sqlite_tables.specs.Lookups.{IsLookup}
 use Rattle.sqlite_wrapper.specs.Looks.{AllLook}
 use Rattle.sqlite_wrapper.specs.Rewrites.{Rewrites}
 use Rattle.sqlite_wrapper.specs.declared.scans.KeyScan.{KeyScan}
@@ -32,7 +25,7 @@ use Rattle.sqlite_tables.proofs.Found.{found_is_read}
 use Rattle.sqlite_tables.proofs.Places.{name_place, place_named}
 use Rattle.sqlite_wrapper.proofs.Bound.{bound_within}
 use Rattle.sqlite_wrapper.proofs.Kept.{within_count}
-use Rattle.sqlite_wrapper.proofs.LiveScans.{Allowed, both, some_inj}
+use Rattle.sqlite_wrapper.proofs.LiveScans.{Allowed}
 use Rattle.sqlite_wrapper.proofs.Maps.{mapped_get}
 
 -- ---- the tables
@@ -87,7 +80,7 @@ marked_some true t e = refl
 marked_some false t e = absurd cc
 
 marked_is : (b : Bool) (t : ℕ) (x : BoxTable) → marked_bound b t ≡ Some x → x ≡ bound_of t
-marked_is true t x e = sym (some_inj _ _ e)
+marked_is true t x e = sym (same_Some _ _ e)
 marked_is false t x e = absurd cc
 
 -- ---- the end
@@ -104,7 +97,7 @@ module _ (honest : Bool) (db after : Database) (bound : List Bool) (scans : BTre
   changes = map change_is write.changes.items
 
   same : can.staging ≡ write_is write
-  same = some_inj _ _ (sym can.is_staged ∙ ap (option_map write_is) is)
+  same = same_Some _ _ (sym can.is_staged ∙ ap (option_map write_is) is)
 
   marked : IsSome (marked_bound (slice_index_or bound t false) t)
   marked = subst (λ (z : Staging). IsSome (marked_bound (slice_index_or bound z.table false) z.table)) same can.is_bound
@@ -122,7 +115,7 @@ module _ (honest : Bool) (db after : Database) (bound : List Bool) (scans : BTre
     -- the lookups of live scans are of tables that did not change
     pub looks_closed : AllLook db scans → AllLook after scans
     looks_closed looks q s e x is =
-        let p = (both (nat_lt s.table layout_count) (allows (asked_of s)) (allowed q s e)).0 in
+        let p = (and_parts (nat_lt s.table layout_count) (allows (asked_of s)) (allowed q s e)).0 in
         subst (λ (es : List SqlRow). IsLookup (layout_at s.table) es x) (sym (others s.table p (no_scan q s e))) (looks q s e x is)
 
     pub same_rows : (u : ℕ) → u ≢ t → rows_at after u ≡ rows_at db u
@@ -139,7 +132,7 @@ module _ (honest : Bool) (db after : Database) (bound : List Bool) (scans : BTre
         go None f = refl
         go (Some s) f =
             ap (λ (es : List SqlRow). first_of s.room (map (given_of (asked_of s) (layout_at s.table)) (to_come es s)))
-            (others s.table (both (nat_lt s.table layout_count) (allows (asked_of s)) (allowed q s f)).0 (no_scan q s f))
+            (others s.table (and_parts (nat_lt s.table layout_count) (allows (asked_of s)) (allowed q s f)).0 (no_scan q s f))
 
     same_held : (r : List ℕ) → (r ≡ (layout_at t).name → ⊥) → held_in after r ≡ held_in db r
     same_held r ne = go (place_of r) refl

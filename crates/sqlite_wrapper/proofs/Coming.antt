@@ -6,15 +6,13 @@ use Rattle.std.proofs.lemmas.List.Elements.{filter_passes, All-weaker}
 use Rattle.sqlite.specs.Order.{Row as SqlRow}
 use Rattle.sqlite.specs.View.{IsShaped}
 use Rattle.sqlite_trees.specs.declared.store.Shape.TheVariants as shape
-use Rattle.sqlite_tables.specs.StoreShapes.{in_range, key_of, range_of, paged}
+use Rattle.sqlite_tables.specs.Prelude.{in_range, key_of, range_of, paged, Layout, row_in, rows_in, least, greatest}
 use Rattle.wrapper_parts.specs.declared.ranges.KeyRange.{KeyRange}
 use Rattle.wrapper_parts.specs.Ranges.{has_key}
 use Rattle.med_value.specs.Datum.{Tuple, Whole}
 use Rattle.fdw_api.specs.Scan.{Spec, RestrictionForm, TableRow, GivenRow, IsComing, first_of, meets, meets_all, meets_exact, given_row, row_cmp}
 use Rattle.fdw_api.specs.declared.scan.Agree.{Agree}
 use Rattle.fdw_api.specs.declared.scan.Agree.TheVariants.{Ignored, Hint, Exact}
-use Rattle.sqlite_tables.specs.Layouts.{Layout}
-use Rattle.sqlite_tables.specs.Cells.{row_in, rows_in, least, greatest}
 use Rattle.sqlite_wrapper.specs.Boxes.{given_of, is_by_key}
 use Rattle.sqlite_tables.proofs.PagesJoin.{between}
 use Rattle.sqlite_wrapper.proofs.Rising.{first_map, rows_rise}

@@ -1,12 +1,11 @@
 -- The numbers of rows that are held for the tables of a database, after one is put in.
 use Rattle.std.proofs.Common.{◌≡◌, ◌≢◌, ◌∙◌, ◌⊎◌, ℕ, ◌≤◌, true, List, [], ◌∷◌, Option, Some, None, length, slice_set, IfSome, zero, suc, inl, inr, refl, sym, ap, subst, arith, nat_lt}
+use Rattle.std.proofs.lemmas.Option.{same_Some}
 use Rattle.sqlite.specs.Effect.{Database}
 use Rattle.med_value.specs.Limits.{row_limit}
-use Rattle.sqlite_tables.specs.Layouts.{layout_at, layout_count}
-use Rattle.sqlite_tables.specs.Tables.{rows_of}
+use Rattle.sqlite_tables.specs.Prelude.{layout_at, layout_count, rows_of}
 use Rattle.sqlite_wrapper.specs.Boxes.{rows_at}
 use Rattle.sqlite_wrapper.specs.Counts.{AreCounts, AreFew, Forgets, held_for}
-use Rattle.sqlite_wrapper.proofs.LiveScans.{some_inj}
 
 not_both : (o : Option ℕ) (n : ℕ) → o ≡ None → o ≡ Some n → ⊥
 not_both o n none some = let e = sym none ∙ some in absurd cc
@@ -40,7 +39,7 @@ put_counts old new counts t count are within is others q n e = go (put_is counts
     here = rw within is
 
     go : ((q ≡ t) × (◌≡◌ {A = Option ℕ} (Some count) (Some n))) ⊎ ((q ≢ t) × (held_for counts q ≡ Some n)) → n ≡ length (rows_at new q)
-    go (inl s) = sym (some_inj _ _ s.1) ∙ here ∙ ap (λ (k : ℕ). length (rows_at new k)) (sym s.0)
+    go (inl s) = sym (same_Some _ _ s.1) ∙ here ∙ ap (λ (k : ℕ). length (rows_at new k)) (sym s.0)
     go (inr s) = are q n s.1 ∙ ap length (sym (others q s.0))
 
 -- what is held for a table, read off
@@ -57,7 +56,7 @@ pub put_few : (counts : List (Option ℕ)) (t count : ℕ) → AreFew counts →
 put_few counts t count few le q n e = go (put_is counts t q n (Some count) e)
   where
     go : ((q ≡ t) × (◌≡◌ {A = Option ℕ} (Some count) (Some n))) ⊎ ((q ≢ t) × (held_for counts q ≡ Some n)) → n ≤ row_limit
-    go (inl s) = subst (λ (k : ℕ). k ≤ row_limit) (some_inj _ _ s.1) le
+    go (inl s) = subst (λ (k : ℕ). k ≤ row_limit) (same_Some _ _ s.1) le
     go (inr s) = few q n s.1
 
 pub forget_counts : (db : Database) (old new : List (Option ℕ)) → Forgets old new → AreCounts db old → AreCounts db new

@@ -4,8 +4,7 @@ use Rattle.std.proofs.lemmas.Int.{ints}
 use Rattle.sqlite.specs.Order.{Row as SqlRow}
 use Rattle.med_value.specs.Datum.{Tuple}
 use Rattle.fdw_api.specs.Scan.{Spec, GivenRow, shown_cells, row_fits}
-use Rattle.sqlite_tables.specs.Layouts.{Layout, kinds_in, layout_at}
-use Rattle.sqlite_tables.specs.Cells.{key_in, id_of, page_cells, is_row}
+use Rattle.sqlite_tables.specs.Prelude.{Layout, kinds_in, layout_at, key_in, id_of, page_cells, is_row}
 use Rattle.sqlite_wrapper.specs.Boxes.{given_of}
 use Rattle.sqlite_wrapper.specs.Pages.{may_be_next}
 use Rattle.sqlite_wrapper.specs.declared.scans.KeyScan.{KeyScan}

@@ -7,27 +7,22 @@ use Rattle.std.specs.BTreeMap as tree
 use Rattle.std.specs.BTreeMap.{BTreeMap, is_at}
 use Rattle.std.specs.Map.{lookup}
 use Rattle.std.specs.FinMap as finmap
+use Rattle.std.proofs.lemmas.Option.{same_Some}
 use Rattle.sqlite.specs.Effect.{Database}
 use Rattle.sqlite.specs.Order.{Row as SqlRow}
 use Rattle.sqlite.specs.Schema.{Schema}
-use Rattle.sqlite_tables.specs.StoreShapes.{range_of, key_of}
-use Rattle.fdw_api.specs.Scan.{Spec, GivenRow, first_of, shown_fits}
-use Rattle.fdw_api.specs.State.{Scan, BoxState}
-use Rattle.fdw_api.specs.Calls.{LeavesOthers, Breaks, GivesRow, GivesNone, bumped, faults_after, not_refused, row_of}
+use Rattle.sqlite_tables.specs.Prelude.{range_of, key_of, layout_at, key_in, IsKnown, behind, entries_of}
+use Rattle.fdw_api.specs.Prelude.{Spec, GivenRow, first_of, shown_fits, Scan, BoxState, LeavesOthers, Breaks, GivesRow, GivesNone, bumped, faults_after, not_refused, row_of}
 use Rattle.fdw_api.specs.declared.interface.Fault.{Fault}
 use Rattle.med_value.specs.Datum.{tuple}
 use Rattle.sqlite_wrapper.specs.declared.scans.KeyScan.{KeyScan}
 use Rattle.wrapper_parts.specs.declared.changes.StagedWrite.{StagedWrite}
 use Rattle.sqlite_wrapper.specs.declared.scans.PageWanted.{PageWanted}
 use Rattle.sqlite_wrapper.specs.declared.rows.GivenNext.{GivenNext}
-use Rattle.sqlite_tables.specs.Layouts.{layout_at}
-use Rattle.sqlite_tables.specs.Cells.{key_in}
-use Rattle.sqlite_tables.specs.Tables.{IsKnown, behind, entries_of}
 use Rattle.sqlite_writes.specs.Writable.{IsWritable}
 use Rattle.sqlite_wrapper.specs.Boxes.{asked_of, is_allowed, lowest, from_to, scan_is, unread, to_come, given_of, scan_rows, mapped, Sets, sqlite_state}
 use Rattle.sqlite_wrapper.specs.Pages.{is_spent, wanted_by, passed, Turns, IsNext}
 use Rattle.sqlite_wrapper.proofs.Maps.{mapped_get, mapped_insert, mapped_same, sets_on}
-use Rattle.sqlite_wrapper.proofs.LiveScans.{some_inj}
 use Rattle.sqlite_wrapper.proofs.Rising.{first_none, first_spent, first_more}
 use Rattle.sqlite_tables.proofs.PagesJoin.{between}
 
@@ -56,7 +51,7 @@ pub there_is : (o : Option KeyScan) (s : KeyScan) → o ≡ Some s → IsSome o
 there_is o s e = subst (λ (z : Option KeyScan). IsSome z) (sym e) refl
 
 pub allows_same : (a b : KeyScan) → scan_is a ≡ scan_is b → is_allowed (scan_is b) ≡ true → (z : KeyScan) → Some a ≡ Some z → is_allowed (scan_is z) ≡ true
-allows_same a b e ok z q = subst (λ (y : KeyScan). is_allowed (scan_is y) ≡ true) (some_inj a z q) (subst (λ (y : Scan). is_allowed y ≡ true) (sym e) ok)
+allows_same a b e ok z q = subst (λ (y : KeyScan). is_allowed (scan_is y) ≡ true) (same_Some a z q) (subst (λ (y : Scan). is_allowed y ≡ true) (sym e) ok)
 
 -- behind the next row the lowest key that may come is one above its key
 lowest_passed : (n : KeyScan) (key : ℤ) → n.«open» ≡ true → key ≤ℤ n.high → lowest (passed n key) ≡ key +ℤ pos 1
@@ -121,7 +116,7 @@ at_end es n more read none = rw none (go n.full n.«open» (record { table = n.t
 
 pub passed_allows : (n s : KeyScan) (key : ℤ) → scan_is n ≡ scan_is s → is_allowed (scan_is s) ≡ true → (z : KeyScan) → Some (passed n key) ≡ Some z → is_allowed (scan_is z) ≡ true
 passed_allows n s key e ok z q =
-    subst (λ (y : KeyScan). is_allowed (scan_is y) ≡ true) (some_inj _ z q)
+    subst (λ (y : KeyScan). is_allowed (scan_is y) ≡ true) (same_Some _ z q)
     (subst (λ (y : Scan). is_allowed y ≡ true) (sym (passed_shows n key)) (subst (λ (y : Scan). is_allowed y ≡ true) (sym e) ok))
 
 -- what a scan gives, by how many rows may come, its table, what it was asked for and the rows that come

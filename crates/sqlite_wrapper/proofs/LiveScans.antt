@@ -7,38 +7,31 @@ use Rattle.std.specs.BTreeMap.{BTreeMap, is_at}
 use Rattle.std.specs.Map.{lookup}
 use Rattle.std.specs.FinMap as finmap
 use Rattle.std.proofs.lemmas.Bool.Decides.{eqb_tells}
+use Rattle.std.proofs.lemmas.Option.{same_Some}
+use Rattle.std.proofs.lemmas.Bool.{and_parts}
 use Rattle.sqlite.specs.Effect.{Database}
 use Rattle.sqlite.specs.Order.{Row as SqlRow}
 use Rattle.sqlite.specs.View.{IsShaped}
 use Rattle.sqlite_trees.specs.declared.store.Shape.TheVariants as shape
-use Rattle.sqlite_tables.specs.StoreShapes.{range_of}
+use Rattle.sqlite_tables.specs.Prelude.{range_of, layout_at, layout_count, kinds_in, least, greatest, entries_of, rows_of}
 use Rattle.wrapper_parts.specs.declared.ranges.KeyRange.{KeyRange}
 use Rattle.wrapper_parts.specs.Ranges.{is_key_value, is_apart, is_range_check, is_key_test, is_typed_check, asks_key, only_key_tests, only_keys}
 use Rattle.med_value.specs.Datum.{Datum, NoValue, Whole, Chars, Logic, Tuple, cell}
 use Rattle.med_value.specs.declared.value.ColType.{ColType}
 use Rattle.med_value.specs.declared.value.ColType.TheVariants.{Int}
-use Rattle.fdw_api.specs.Scan.{KeyForm, Spec, spec_of, first_of, RestrictionForm, TestForm, Compares, Missing, Present, Given, Slot, has_kind, kind_is, test_fits, params_fit, IsComing, meets_exact}
+use Rattle.fdw_api.specs.Prelude.{KeyForm, Spec, spec_of, first_of, RestrictionForm, TestForm, Compares, Missing, Present, Given, Slot, has_kind, kind_is, test_fits, params_fit, IsComing, meets_exact, AllowsPromise, WishForm, key_form, spec2_of, with_promise, BoxTable, Scan, BoxState, scan_of, table_of, LeavesOthers, new_scan, Begins, Breaks, CanRescan, Rescans, Ends, RefusesBegin, faults_after, not_refused, Allows}
 use Rattle.fdw_api.specs.declared.scan.Agree.{Agree}
 use Rattle.fdw_api.specs.declared.scan.Agree.TheVariants.{Ignored, Hint, Exact}
-use Rattle.fdw_api.specs.Wishes.{AllowsPromise, WishForm, key_form, spec2_of, with_promise}
 use Rattle.fdw_api.specs.declared.wishes.OrderKey.{OrderKey}
 use Rattle.fdw_api.specs.declared.wishes.ScanSpec2.{ScanSpec2}
 use Rattle.fdw_api.specs.declared.interface.Fault.{Fault}
 use Rattle.fdw_api.specs.declared.interface.Fault.TheVariants.{NoMemory}
-use Rattle.fdw_api.specs.State.{BoxTable, Scan, BoxState, scan_of, table_of}
-use Rattle.fdw_api.specs.Calls.{LeavesOthers, new_scan, Begins, Breaks, CanRescan, Rescans, Ends, RefusesBegin, faults_after, not_refused, Allows}
 use Rattle.sqlite_wrapper.specs.declared.scans.KeyScan.{KeyScan}
 use Rattle.wrapper_parts.specs.declared.changes.StagedWrite.{StagedWrite}
-use Rattle.sqlite_tables.specs.Layouts.{layout_at, layout_count, kinds_in}
-use Rattle.sqlite_tables.specs.Cells.{least, greatest}
 use Rattle.sqlite_wrapper.specs.Boxes.{allows, asked_of, is_allowed, is_by_key, bound_of, marked_bound, lowest, from_to, scan_is, given_of, scan_rows, to_come, mapped, Sets, promised, sqlite_state, IsNewScan, IsBegun}
-use Rattle.sqlite_tables.specs.Tables.{entries_of, rows_of}
 use Rattle.sqlite_wrapper.proofs.Maps.{mapped_get, mapped_insert, mapped_remove}
 use Rattle.sqlite_tables.proofs.PagesJoin.{between}
 use Rattle.sqlite_wrapper.proofs.Coming.{span_is, comes}
-
-pub some_inj : {A : Type 0} (a b : A) → Some a ≡ Some b → a ≡ b
-some_inj a b q = cc
 
 pub at_some : {X : Type 0} (o : Option X) → IsSome o → (x : X) × (o ≡ Some x)
 at_some None e = absurd cc
@@ -46,15 +39,11 @@ at_some (Some x) e = (x, refl)
 
 pub if_some : {X : Type 0} (o : Option X) (P : X → Type 0) (x : X) → o ≡ Some x → IfSome o P → P x
 if_some None P x e p = absurd cc
-if_some (Some y) P x e p = subst P (some_inj y x e) p
+if_some (Some y) P x e p = subst P (same_Some y x e) p
 
 there : {X Y : Type 0} (f : X → Y) (o : Option X) (y : Y) → option_map f o ≡ Some y → IsSome o
 there f None y e = absurd cc
 there f (Some x) y e = refl
-
-pub both : (a b : Bool) → (a && b) ≡ true → (a ≡ true) × (b ≡ true)
-both true b e = (refl, e)
-both false b e = absurd cc
 
 pair : (a b : Bool) → a ≡ true → b ≡ true → (a && b) ≡ true
 pair a b d e = rw (d, e) refl
@@ -72,8 +61,8 @@ is_zero (suc n) e = absurd (grind arith)
 typed_check : (ks : List ColType) (params : Tuple) (column : ℕ) (check : TestForm) → nat_eq column 0 ≡ true → is_range_check check ≡ true → test_fits (Int ∷ ks) params column check ≡ true → is_typed_check params check ≡ true
 typed_check ks params column (Compares op (Given v)) zero_is range fits = range
 typed_check ks params column (Compares op (Slot at)) zero_is range fits =
-    let w = both (not (is_apart op)) true range in
-    let f = both _ (kind_is (slice_get (Int ∷ ks) column) (cell params at)) fits in
+    let w = and_parts (not (is_apart op)) true range in
+    let f = and_parts _ (kind_is (slice_get (Int ∷ ks) column) (cell params at)) fits in
     let k : kind_is (slice_get (Int ∷ ks) 0) (cell params at) ≡ true = subst (λ (n : ℕ). kind_is (slice_get (Int ∷ ks) n) (cell params at) ≡ true) (is_zero column zero_is) f.1 in
     pair (not (is_apart op)) _ w.0 (int_is_key (cell params at) k)
 typed_check ks params column Missing zero_is range fits = refl
@@ -84,15 +73,15 @@ pub keys_fit : (ks : List ColType) (params : Tuple) (fs : List RestrictionForm) 
 keys_fit ks params [] gs allowed fits = refl
 keys_fit ks params (f ∷ fs) [] allowed fits = refl
 keys_fit ks params (f ∷ fs) (Exact ∷ gs) allowed fits =
-    let w = both (is_key_test f) (only_key_tests fs gs) allowed in
-    let v = both (test_fits (Int ∷ ks) params f.column f.test) _ fits in
-    let t = both (nat_eq f.column 0) (is_range_check f.test) w.0 in
+    let w = and_parts (is_key_test f) (only_key_tests fs gs) allowed in
+    let v = and_parts (test_fits (Int ∷ ks) params f.column f.test) _ fits in
+    let t = and_parts (nat_eq f.column 0) (is_range_check f.test) w.0 in
     pair (asks_key params f) (only_keys params fs gs) (pair (nat_eq f.column 0) _ t.0 (typed_check ks params f.column f.test t.0 t.1 v.0)) (keys_fit ks params fs gs w.1 v.1)
-keys_fit ks params (f ∷ fs) (Ignored ∷ gs) allowed fits = keys_fit ks params fs gs allowed (both (test_fits (Int ∷ ks) params f.column f.test) _ fits).1
-keys_fit ks params (f ∷ fs) (Hint ∷ gs) allowed fits = keys_fit ks params fs gs allowed (both (test_fits (Int ∷ ks) params f.column f.test) _ fits).1
+keys_fit ks params (f ∷ fs) (Ignored ∷ gs) allowed fits = keys_fit ks params fs gs allowed (and_parts (test_fits (Int ∷ ks) params f.column f.test) _ fits).1
+keys_fit ks params (f ∷ fs) (Hint ∷ gs) allowed fits = keys_fit ks params fs gs allowed (and_parts (test_fits (Int ∷ ks) params f.column f.test) _ fits).1
 
 marked_is : (f : Bool) (t : ℕ) (b : BoxTable) → marked_bound f t ≡ Some b → b ≡ bound_of t
-marked_is true t b e = sym (some_inj _ _ e)
+marked_is true t b e = sym (same_Some _ _ e)
 marked_is false t b e = absurd cc
 
 -- a bound table has the types of its layout, and allows tests of the key
@@ -104,14 +93,14 @@ bound_allows f t b spec e a = subst (λ (z : BoxTable). z.allows spec ≡ true) 
 
 -- what is allowed tests the key alone, and no other order than that of the key is promised of it
 pub allowed_tests : (spec : Spec) → allows spec ≡ true → only_key_tests spec.offered spec.answers ≡ true
-allowed_tests spec a = (both (is_by_key spec.order) _ (both (not spec.narrow) _ a).1).1
+allowed_tests spec a = (and_parts (is_by_key spec.order) _ (and_parts (not spec.narrow) _ a).1).1
 
 pub allowed_order : (spec : Spec) → allows spec ≡ true → is_by_key spec.order ≡ true
-allowed_order spec a = (both (is_by_key spec.order) _ (both (not spec.narrow) _ a).1).0
+allowed_order spec a = (and_parts (is_by_key spec.order) _ (and_parts (not spec.narrow) _ a).1).0
 
 -- with such an order, and with any limit, it is allowed too
 pub allows_order : (spec : Spec) (order : List KeyForm) (limit : Option ℕ) → allows spec ≡ true → is_by_key order ≡ true → allows (record spec { order = order; limit = limit }) ≡ true
-allows_order spec order limit a by = pair (not spec.narrow) _ (both (not spec.narrow) _ a).0 (pair (is_by_key order) _ by (allowed_tests spec a))
+allows_order spec order limit a by = pair (not spec.narrow) _ (and_parts (not spec.narrow) _ a).0 (pair (is_by_key order) _ by (allowed_tests spec a))
 
 -- an order that is promised where it is that of the key is
 pub kept_order : (b : Bool) (order : List KeyForm) → b ≡ is_by_key order → is_by_key (if b then order else []) ≡ true
@@ -334,10 +323,10 @@ module _ (honest : Bool) (bound : List Bool) (staged : Option StagedWrite) where
   pub rescan_asks : (db : Database) (m : BTreeMap ℕ KeyScan) (next pulled faults n : ℕ) (s : KeyScan) (params : Tuple) → Allowed m → tree.get nat_cmp m n ≡ Some s
       → CanRescan (box db m next pulled faults) n params → only_keys params (spec_of s.spec).offered (spec_of s.spec).answers ≡ true
   rescan_asks db m next pulled faults n s params all is can =
-      let same : scan_is s ≡ can.scan = some_inj _ _ (sym (mapped_get scan_is m n ∙ ap (option_map scan_is) is) ∙ can.at) in
+      let same : scan_is s ≡ can.scan = same_Some _ _ (sym (mapped_get scan_is m n ∙ ap (option_map scan_is) is) ∙ can.at) in
       let at : marked_bound (slice_index_or bound s.table false) s.table ≡ Some can.bound =
       subst (λ (z : Scan). marked_bound (slice_index_or bound z.table false) z.table ≡ Some can.bound) (sym same) can.is in
       let typed = subst (λ (z : Scan). params_fit can.bound.kinds z.spec.offered params ≡ true) (sym same) can.typed in
-      let tests = allowed_tests (asked_of s) (both (nat_lt s.table layout_count) (allows (asked_of s)) (all n s is)).1 in
+      let tests = allowed_tests (asked_of s) (and_parts (nat_lt s.table layout_count) (allows (asked_of s)) (all n s is)).1 in
       keys_fit ((layout_at s.table).second ∷ (layout_at s.table).third ∷ []) params (spec_of s.spec).offered (spec_of s.spec).answers tests
       (subst (λ (k : List ColType). params_fit k (spec_of s.spec).offered params ≡ true) (bound_kinds (slice_index_or bound s.table false) s.table can.bound at) typed)

@@ -5,28 +5,24 @@ use Rattle.std.specs.Ordering.{nat_cmp}
 use Rattle.std.specs.BTreeMap as tree
 use Rattle.std.specs.BTreeMap.{BTreeMap}
 use Rattle.std.proofs.lemmas.Bool.Decides.{eqb_tells}
+use Rattle.std.proofs.lemmas.Option.{same_Some}
 use Rattle.sqlite.specs.Effect.{Database}
 use Rattle.sqlite.specs.Order.{Row as SqlRow}
 use Rattle.sqlite.specs.View.{IsShaped}
 use Rattle.sqlite_trees.specs.declared.store.Shape.TheVariants as shape
 use Rattle.med_value.specs.Datum.{Datum, Tuple, Whole, datum, cell}
-use Rattle.fdw_api.specs.Scan.{Spec, KeyForm, TableRow, IsComing, first_of, given_row, meets_exact}
-use Rattle.fdw_api.specs.Wishes.{is_unpromised, key_form}
+use Rattle.fdw_api.specs.Prelude.{Spec, KeyForm, TableRow, IsComing, first_of, given_row, meets_exact, is_unpromised, key_form, Scan}
 use Rattle.wrapper_parts.specs.Scans.{SoughtForm, sought, has_sought, rows_taken}
 use Rattle.wrapper_parts.proofs.Taking.{taken_comes}
-use Rattle.sqlite_tables.specs.Layouts.{Layout, layout_at}
-use Rattle.sqlite_tables.specs.Cells.{row_in, rows_in, least, greatest}
-use Rattle.sqlite_tables.specs.Tables.{entries_of, rows_of}
+use Rattle.sqlite_tables.specs.Prelude.{Layout, layout_at, row_in, rows_in, least, greatest, entries_of, rows_of, IsLookup, has_value, rows_with}
 use Rattle.sqlite_tables.proofs.PagesJoin.{between}
 use Rattle.sqlite_tables.specs.declared.reading.Lookup.{Lookup}
-use Rattle.sqlite_tables.specs.Lookups.{IsLookup, has_value, rows_with}
 use Rattle.sqlite_wrapper.specs.declared.scans.KeyScan.{KeyScan}
 use Rattle.sqlite_wrapper.specs.Boxes.{Sets, IsBegun, allows, asked_of, is_by_key, lowest, scan_is, scan_rows, given_of}
-use Rattle.fdw_api.specs.State.{Scan}
 use Rattle.sqlite_wrapper.specs.Looks.{Looks, AllLook, IsFree, LooksFor, IsFilled, IsAnswered}
 use Rattle.sqlite_wrapper.proofs.Coming.{same, shows}
 use Rattle.sqlite_wrapper.specs.Pages.{passed}
-use Rattle.sqlite_wrapper.proofs.LiveScans.{Fresh, some_inj, if_some, allowed_order, begun_keys, begun_coming}
+use Rattle.sqlite_wrapper.proofs.LiveScans.{Fresh, if_some, allowed_order, begun_keys, begun_coming}
 
 -- ---- the lookups of live scans
 
@@ -165,7 +161,7 @@ answered_coming db s n t spec params begun allowed shaped rows =
 
 -- a live scan in whose place one of its table, with its lookup, is put
 pub looks_kept : (db : Database) (s a : KeyScan) → a.table ≡ s.table → a.lookup ≡ s.lookup → Looks db s → (z : KeyScan) → Some a ≡ Some z → Looks db z
-looks_kept db s a table lookup looks z e = subst (Looks db) (some_inj a z e) (looks_same db s a table lookup looks)
+looks_kept db s a table lookup looks z e = subst (Looks db) (same_Some a z e) (looks_same db s a table lookup looks)
 
 -- `passed`, by whether a greater key may come
 abbrev passing : KeyScan → ℤ → Bool → KeyScan

@@ -7,17 +7,12 @@ use Rattle.sqlite.specs.Effect.{Database}
 use Rattle.med_value.specs.Datum.{Tuple}
 use Rattle.med_value.specs.declared.cause.Cause.{Cause}
 use Rattle.med_value.specs.declared.cause.Cause.TheVariants.{NotNull, NotUnique, TooLarge}
-use Rattle.fdw_api.specs.Kinds.{Change, Held, held}
-use Rattle.fdw_api.specs.Scan.{TableRow}
-use Rattle.fdw_api.specs.Writes.{rows_after}
+use Rattle.fdw_api.specs.Prelude.{Change, Held, held, TableRow, rows_after}
 use Rattle.sqlite.specs.Order.{Row as SqlRow}
-use Rattle.sqlite_tables.specs.Layouts.{layout_at}
-use Rattle.sqlite_tables.specs.Cells.{rows_in}
-use Rattle.sqlite_tables.specs.Tables.{rows_of, entries_in, tree_found}
+use Rattle.sqlite_tables.specs.Prelude.{layout_at, rows_in, rows_of, entries_in, tree_found, OnlyBy}
 use Rattle.sqlite_writes.specs.Kinds.{in_key_order, order_permutes, key_cell, lacks_key, no_line, repeats, with_cause, write_causes}
 use Rattle.fdw_api.specs.declared.interface.Fault.{Fault}
 use Rattle.fdw_api.specs.declared.interface.Fault.TheVariants.{NoMemory, Source, Refused}
-use Rattle.sqlite_tables.specs.Refusing.{OnlyBy}
 use Rattle.sqlite_writes.specs.Splitting.{keys_gone, rows_come, IsKeyless}
 use Rattle.sqlite_writes.specs.Rewriting.{rewritten, repeats_key}
 use Rattle.sqlite_writes.specs.Writable.{KeepsTables}

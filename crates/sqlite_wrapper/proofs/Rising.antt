@@ -5,18 +5,16 @@ use Rattle.std.specs.declared.cmp.Ordering.{Ordering}
 use Rattle.std.specs.declared.cmp.Ordering.TheVariants.{Less, Equal, Greater}
 use Rattle.std.specs.Ordering.{is_lt, int_cmp, ordering_then}
 use Rattle.std.specs.List.{AllByRecursion}
+use Rattle.std.proofs.lemmas.Bool.{and_parts, not-true}
 use Rattle.sqlite.specs.Order.{Row as SqlRow, value_cmp}
 use Rattle.sqlite.specs.Tree.{rowid, IsTable}
 use Rattle.sqlite.specs.View.{IsShaped, is_int}
 use Rattle.sqlite_trees.specs.declared.store.Shape.TheVariants as shape
 use Rattle.sqlite_trees.specs.Tree.{IsAscending}
 use Rattle.sqlite_trees.proofs.ListLemmas.{all-filter, ascending-filter, ascending-get_or}
-use Rattle.sqlite_tables.specs.StoreShapes.{in_range, key_of, range_of, paged}
-use Rattle.med_value.specs.Datum.{cell}
-use Rattle.med_value.specs.Order.{key_cmp}
+use Rattle.sqlite_tables.specs.Prelude.{in_range, key_of, range_of, paged, Layout, row_in, page_cells}
+use Rattle.med_value.specs.Prelude.{cell, key_cmp}
 use Rattle.fdw_api.specs.Scan.{KeyForm, TableRow, first_of, row_cmp}
-use Rattle.sqlite_tables.specs.Layouts.{Layout}
-use Rattle.sqlite_tables.specs.Cells.{row_in, page_cells}
 use Rattle.sqlite_tables.proofs.PagesJoin.{Ints, lower}
 use Rattle.sqlite_wrapper.specs.Boxes.{is_by_key}
 use Rattle.sqlite_wrapper.specs.Pages.{is_spent}
@@ -53,17 +51,9 @@ first_more {X} (Some (suc n)) x xs e = let less : suc n - 1 ≡ n = omega arith 
 
 -- ---- the order of keys
 
-both : (a b : Bool) → (a && b) ≡ true → (a ≡ true) × (b ≡ true)
-both true b e = (refl, e)
-both false b e = absurd cc
-
 is_first : (n : ℕ) → nat_eq n 0 ≡ true → n ≡ 0
 is_first zero e = refl
 is_first (suc n) e = absurd (grind arith)
-
-is_ascending : (b : Bool) → not b ≡ true → b ≡ false
-is_ascending true e = absurd cc
-is_ascending false e = refl
 
 greater_than : (m n : ℤ) → m <ℤ n → is_lt (int_cmp n m) ≡ false
 greater_than m n less = grind (arith, ints)
@@ -78,9 +68,9 @@ behind : (l : Layout) (order : List KeyForm) → is_by_key order ≡ true → (a
     → is_lt (row_cmp order (row_in l (paged b)) (row_in l (paged a))) ≡ false
 behind l [] by a b less = refl
 behind l (k ∷ []) by a b less =
-    let w = both (nat_eq k.column 0) (not k.descending) by in
+    let w = and_parts (nat_eq k.column 0) (not k.descending) by in
     or_equal (key_cmp k.descending k.nulls_first (cell (page_cells l (paged b)) k.column) (cell (page_cells l (paged a)) k.column))
-    (at k.column k.descending (is_first k.column w.0) (is_ascending k.descending w.1))
+    (at k.column k.descending (is_first k.column w.0) (not-true k.descending w.1))
   where
     at : (n : ℕ) (d : Bool) → n ≡ 0 → d ≡ false → is_lt (key_cmp d k.nulls_first (cell (page_cells l (paged b)) n) (cell (page_cells l (paged a)) n)) ≡ false
     at n d en ed = rw (en, ed) (greater_than (key_of a) (key_of b) less)

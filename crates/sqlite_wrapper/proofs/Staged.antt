@@ -2,24 +2,22 @@
 use Rattle.std.proofs.Common.{◌≡◌, ℕ, Bool, true, false, ◌&&◌, List, [], ◌∷◌, ◌++◌, Option, Some, None, IsSome, IfSome, Result, Ok, Err, OnOk, IfErr, IsTrue, map, option_map, slice_index_or, refl, ap, sym, ◌∙◌, subst, nat_lt, length}
 use Rattle.std.specs.List.{list_all}
 use Rattle.std.specs.BTreeMap.{BTreeMap}
+use Rattle.std.proofs.lemmas.Option.{same_Some}
 use Rattle.sqlite.specs.Effect.{Database}
 use Rattle.med_value.specs.declared.value.ColType.{ColType}
 use Rattle.fdw_api.specs.declared.interface.Fault.{Fault}
 use Rattle.fdw_api.specs.declared.interface.Fault.TheVariants.{NoMemory}
-use Rattle.fdw_api.specs.Kinds.{Change}
-use Rattle.fdw_api.specs.State.{Staging}
-use Rattle.fdw_api.specs.Writes.{CanChange, row_of_change_fits, is_first, id_is_there}
+use Rattle.fdw_api.specs.Prelude.{Change, Staging, CanChange, row_of_change_fits, is_first, id_is_there}
 use Rattle.sqlite_wrapper.specs.declared.scans.KeyScan.{KeyScan}
 use Rattle.wrapper_parts.specs.declared.changes.StagedWrite.{StagedWrite}
-use Rattle.sqlite_tables.specs.Layouts.{layout_count, kinds_in, layout_at}
+use Rattle.sqlite_tables.specs.Prelude.{layout_count, kinds_in, layout_at, rows_of}
 use Rattle.wrapper_parts.specs.Staged.{change_is, write_is, with_change, broken_write}
 use Rattle.sqlite_writes.specs.Splitting.{IsNamedOnce}
-use Rattle.sqlite_tables.specs.Tables.{rows_of}
 use Rattle.sqlite_wrapper.specs.Changes.{write_fits, NamesOnce, names_rows}
 use Rattle.sqlite_wrapper.proofs.Bound.{bound_within}
 use Rattle.sqlite_wrapper.proofs.Kept.{within_count, some_there}
 use Rattle.sqlite_wrapper.specs.Boxes.{marked_bound, rows_at, sqlite_state}
-use Rattle.sqlite_wrapper.proofs.LiveScans.{some_inj, at_some, if_some, bound_kinds}
+use Rattle.sqlite_wrapper.proofs.LiveScans.{at_some, if_some, bound_kinds}
 
 one_more : (p : Change → Bool) (cs : List Change) (c : Change) → list_all p cs ≡ true → p c ≡ true → list_all p (cs ++ c ∷ []) ≡ true
 one_more p [] c all one = rw one refl
@@ -45,7 +43,7 @@ module _ (honest : Bool) (db : Database) (bound : List Bool) (m : BTreeMap ℕ K
   is = (at_some staged is_there).1
 
   same : can.staging ≡ write_is write
-  same = some_inj can.staging (write_is write) (sym can.is_staged ∙ ap (option_map write_is) is)
+  same = same_Some can.staging (write_is write) (sym can.is_staged ∙ ap (option_map write_is) is)
 
   fits : row_of_change_fits (kinds_in (layout_at write.table)) change ≡ true
   fits =

@@ -5,9 +5,7 @@ use Rattle.sqlite.specs.Effect.{Database}
 use Rattle.sqlite.specs.State.{State}
 use Rattle.sqlite.specs.View.{IsShaped}
 use Rattle.sqlite_trees.specs.declared.store.Shape.TheVariants as shape
-use Rattle.sqlite_tables.specs.Steady.{IsCleanAfter}
-use Rattle.sqlite_tables.specs.Layouts.{layout_at}
-use Rattle.sqlite_tables.specs.Tables.{IsSure, entries_in}
+use Rattle.sqlite_tables.specs.Prelude.{IsCleanAfter, layout_at, IsSure, entries_in}
 use Rattle.sqlite_writes.specs.Writable.{IsSureWrite, IsWritable}
 use Rattle.sqlite_wrapper.proofs.Giving.{known_by}
 

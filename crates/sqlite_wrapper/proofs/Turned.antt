@@ -1,15 +1,13 @@
 -- A scan whose page is turned has the same rows to come.
 use Rattle.std.proofs.Common.{◌≡◌, ℕ, ℤ, pos, ◌+ℤ◌, ◌≤◌, Bool, true, false, not, ◌||◌, if◌then◌else◌, nat_eq, nat_lt, List, [], ◌∷◌, ◌++◌, Option, Some, None, IfSome, length, drop, zero, suc, refl, ap, sym, arith}
+use Rattle.std.proofs.lemmas.Option.{same_Some}
 use Rattle.sqlite.specs.Order.{Row as SqlRow}
 use Rattle.sqlite.specs.Effect.{Database}
 use Rattle.sqlite_wrapper.specs.declared.scans.KeyScan.{KeyScan}
 use Rattle.sqlite_wrapper.specs.declared.scans.PageWanted.{PageWanted}
-use Rattle.sqlite_tables.specs.Layouts.{layout_at}
-use Rattle.sqlite_tables.specs.StoreShapes.{range_of}
-use Rattle.sqlite_tables.specs.Tables.{behind, entries_of, entries_in, rest_of}
+use Rattle.sqlite_tables.specs.Prelude.{layout_at, range_of, behind, entries_of, entries_in, rest_of}
 use Rattle.sqlite_wrapper.specs.Boxes.{to_come}
 use Rattle.sqlite_wrapper.specs.Pages.{is_spent, wanted_by, Turns}
-use Rattle.sqlite_wrapper.proofs.LiveScans.{some_inj}
 
 pub wants : (s : KeyScan) (p : PageWanted) → wanted_by s ≡ Some p
     → (p.table ≡ s.table) × (p.low ≡ s.low) × (p.high ≡ s.high) × (length s.page.items ≤ s.at) × (s.full ≡ true) × (s.«open» ≡ true)
@@ -23,7 +21,7 @@ wants s p e = go (is_spent s.room) (nat_lt s.at (length s.page.items)) s.full s.
     go false false false o ea ef eo e = absurd cc
     go false false true false ea ef eo e = absurd cc
     go false false true true ea ef eo e =
-        let q = some_inj _ p e in
+        let q = same_Some _ p e in
         (sym (ap (λ (z : PageWanted). z.table) q), sym (ap (λ (z : PageWanted). z.low) q), sym (ap (λ (z : PageWanted). z.high) q), grind arith, ef, eo)
 
 drop_past : (xs : List SqlRow) (n : ℕ) → length xs ≤ n → drop n xs ≡ []

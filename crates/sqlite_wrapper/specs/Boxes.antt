@@ -8,22 +8,16 @@ use Rattle.std.specs.Int.{w64}
 use borrow.Author.Differences.{up, down}
 use Rattle.sqlite.specs.Effect.{Database}
 use Rattle.sqlite.specs.Order.{Row as SqlRow}
-use Rattle.sqlite_tables.specs.StoreShapes.{range_of}
-use Rattle.sqlite_tables.specs.Tables.{entries_of, rows_of, entry_of, behind}
+use Rattle.sqlite_tables.specs.Prelude.{range_of, entries_of, rows_of, entry_of, behind, Layout, kinds_in, layout_at, layout_count, place_of, row_in}
 use Rattle.wrapper_parts.specs.Ranges.{has_key, only_key_tests, plain_is_allowed}
 use Rattle.wrapper_parts.specs.declared.ranges.KeyRange.{KeyRange}
 use Rattle.med_value.specs.Datum.{Whole, Tuple, datum}
-use Rattle.fdw_api.specs.Scan.{KeyForm, Spec, first_of, spec_of, TableRow, GivenRow, given_row, meets_exact}
-use Rattle.fdw_api.specs.Kinds.{Entry, Holding, Known}
-use Rattle.fdw_api.specs.State.{BoxTable, Scan, Ledger, Content, BoxState, whole_asks_rest}
-use Rattle.fdw_api.specs.Wishes.{key_form}
+use Rattle.fdw_api.specs.Prelude.{KeyForm, Spec, first_of, spec_of, TableRow, GivenRow, given_row, meets_exact, Entry, Holding, Known, BoxTable, Scan, Ledger, Content, BoxState, whole_asks_rest, key_form}
 use Rattle.fdw_api.specs.declared.wishes.OrderKey.{OrderKey}
 use Rattle.sqlite_wrapper.specs.declared.scans.KeyScan.{KeyScan}
 use Rattle.wrapper_parts.specs.declared.changes.StagedWrite.{StagedWrite}
-use Rattle.sqlite_tables.specs.Layouts.{Layout, kinds_in, layout_at, layout_count, place_of}
 use Rattle.sqlite_writes.specs.Kinds.{no_line, by_key, sqlite_refusals}
 use Rattle.sqlite_wrapper.specs.Kinds.{sqlite_image, sqlite_kind}
-use Rattle.sqlite_tables.specs.Cells.{row_in}
 use Rattle.wrapper_parts.specs.Staged.{write_is}
 
 abbrev pub entry_at : Database → Option ℕ → Option Entry

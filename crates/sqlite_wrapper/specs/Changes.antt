@@ -2,11 +2,9 @@
 use Rattle.std.specs.Prelude.{ℕ, Bool, true, List, [], Option, Some, None, nat_eq}
 use Rattle.std.specs.List.{list_all, IsDistinct}
 use Rattle.std.proofs.lemmas.Map.Keys.{IsDistinct-prop}
-use Rattle.fdw_api.specs.State.{Staging}
-use Rattle.fdw_api.specs.Writes.{row_of_change_fits, id_is_there}
+use Rattle.fdw_api.specs.Prelude.{Staging, row_of_change_fits, id_is_there}
 use Rattle.sqlite.specs.Effect.{Database}
-use Rattle.sqlite_tables.specs.Layouts.{kinds_in, layout_at}
-use Rattle.sqlite_tables.specs.Tables.{rows_of}
+use Rattle.sqlite_tables.specs.Prelude.{kinds_in, layout_at, rows_of}
 use Rattle.sqlite_writes.specs.Splitting.{ids_named}
 
 -- its new rows are of its table's types

@@ -4,11 +4,8 @@ use Rattle.std.specs.List.{list_all}
 use Rattle.sqlite.specs.Effect.{Database}
 use Rattle.sqlite.specs.Schema.{Schema}
 use Rattle.sqlite.specs.State.{State}
-use Rattle.fdw_api.specs.Kinds.{Change}
-use Rattle.fdw_api.specs.State.{Staging}
-use Rattle.fdw_api.specs.Writes.{id_is_there}
-use Rattle.sqlite_tables.specs.Layouts.{layout_at}
-use Rattle.sqlite_tables.specs.Tables.{IsKnown, rows_of}
+use Rattle.fdw_api.specs.Prelude.{Change, Staging, id_is_there}
+use Rattle.sqlite_tables.specs.Prelude.{layout_at, IsKnown, rows_of}
 use Rattle.sqlite_writes.specs.Writable.{AreApart, IsSureWrite, IsWritable}
 use Rattle.sqlite_wrapper.specs.Changes.{names_rows}
 use Rattle.sqlite_wrapper.specs.Counts.{AreCounts}

@@ -8,11 +8,8 @@ use Rattle.sqlite.specs.Order.{Row as SqlRow}
 use Rattle.med_value.specs.Datum.{datum, cell}
 use Rattle.fdw_api.specs.Scan.{spec_of}
 use Rattle.wrapper_parts.specs.Scans.{SoughtForm, sought}
-use Rattle.sqlite_tables.specs.Layouts.{layout_at}
-use Rattle.sqlite_tables.specs.Cells.{row_in, least, greatest}
-use Rattle.sqlite_tables.specs.Tables.{entries_of}
+use Rattle.sqlite_tables.specs.Prelude.{layout_at, row_in, least, greatest, entries_of, IsLookup, rows_with}
 use Rattle.sqlite_tables.specs.declared.reading.Lookup.{Lookup}
-use Rattle.sqlite_tables.specs.Lookups.{IsLookup, rows_with}
 use Rattle.sqlite_wrapper.specs.declared.scans.KeyScan.{KeyScan}
 use Rattle.sqlite_wrapper.specs.Boxes.{scan_is}
 

@@ -2,10 +2,8 @@
 use Rattle.std.specs.Prelude.{◌≡◌, ◌⊎◌, ◌-◌, ◌<◌, ◌≤ℤ◌, ℕ, List, [], ◌∷◌, drop, ℤ, pos, ◌+ℤ◌, ◌+◌, Bool, true, false, not, ◌||◌, length, Option, Some, None, option_map, nat_eq, if◌then◌else◌, nat_lt, int_lt, int_le, ◌&&◌}
 use Rattle.sqlite.specs.Order.{Row as SqlRow}
 use Rattle.med_value.specs.Datum.{tuple}
-use Rattle.fdw_api.specs.Scan.{spec_of, shown_fits, row_fits}
-use Rattle.fdw_api.specs.Calls.{row_of}
-use Rattle.sqlite_tables.specs.Layouts.{kinds_in, layout_at}
-use Rattle.sqlite_tables.specs.Cells.{key_in, page_cells, is_row}
+use Rattle.fdw_api.specs.Prelude.{spec_of, shown_fits, row_fits, row_of}
+use Rattle.sqlite_tables.specs.Prelude.{kinds_in, layout_at, key_in, page_cells, is_row}
 use Rattle.sqlite_wrapper.specs.Boxes.{scan_is, unread, to_come, given_of}
 use Rattle.sqlite_wrapper.specs.declared.rows.GivenNext.{GivenNext}
 use Rattle.sqlite_wrapper.specs.declared.scans.KeyScan.{KeyScan}

@@ -2,10 +2,8 @@
 use Rattle.std.specs.Prelude.{◌≡◌, ◌≢◌, ℕ, [], List, None, map, nat_eq}
 use Rattle.std.specs.List.{IsDistinct}
 use Rattle.sqlite.specs.Effect.{Database}
-use Rattle.fdw_api.specs.Kinds.{Change, held}
-use Rattle.fdw_api.specs.Writes.{rows_after}
-use Rattle.sqlite_tables.specs.Layouts.{layout_at}
-use Rattle.sqlite_tables.specs.Tables.{rows_of, tree_found}
+use Rattle.fdw_api.specs.Prelude.{Change, held, rows_after}
+use Rattle.sqlite_tables.specs.Prelude.{layout_at, rows_of, tree_found}
 use Rattle.sqlite_writes.specs.Kinds.{in_key_order, no_line, write_causes}
 use Rattle.sqlite_writes.specs.Writable.{KeepsTables}
 

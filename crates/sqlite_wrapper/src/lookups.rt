@@ -7,9 +7,7 @@ ghost use Rattle.sqlite.specs.View.{IsShaped};
 ghost use Rattle.sqlite_trees.specs.declared.store.Shape.TheVariants as shape;
 ghost use Rattle.fdw_api.specs.Calls.{not_refused};
 ghost use Rattle.wrapper_parts.specs.Scans.{form_of};
-ghost use Rattle.sqlite_tables.specs.Layouts.{layout_at};
-ghost use Rattle.sqlite_tables.specs.Tables.{IsKnown, IsSure, ReadsOnly, entries_in};
-ghost use Rattle.sqlite_tables.specs.Lookups.{IsLookup};
+ghost use Rattle.sqlite_tables.specs.Prelude.{layout_at, IsKnown, IsSure, ReadsOnly, entries_in, IsLookup};
 ghost use Rattle.sqlite_wrapper.specs.Boxes.{scan_is};
 ghost use Rattle.sqlite_wrapper.specs.Looks.{IsFree, LooksFor, IsAnswered};
 

@@ -5,8 +5,7 @@ ghost use Rattle.std.specs.BTreeMap as tree;
 ghost use Rattle.fdw_api.specs.Calls.{faults_after, not_refused};
 ghost use Rattle.sqlite.specs.Held.{state};
 ghost use Rattle.sqlite_wrapper.specs.declared.scans.KeyScan.{KeyScan};
-ghost use Rattle.sqlite_tables.specs.Layouts.{layout_at};
-ghost use Rattle.sqlite_tables.specs.Tables.{IsKnown, IsSure, ReadsOnly, entries_of};
+ghost use Rattle.sqlite_tables.specs.Prelude.{layout_at, IsKnown, IsSure, ReadsOnly, entries_of};
 ghost use Rattle.sqlite_wrapper.specs.Boxes.{Sets};
 ghost use Rattle.sqlite_wrapper.specs.Pages.{IsNext, Turns, may_be_next};
 

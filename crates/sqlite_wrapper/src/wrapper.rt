@@ -67,8 +67,7 @@ pub struct SqliteWrapper<S: SourceStore + Drop> {
 }
 
 impl<S: SourceStore + Drop> SqliteWrapper<S> {
-    ghost use Rattle.fdw_api.specs.State.{table_of};
-    ghost use Rattle.fdw_api.specs.Calls.{Begins, RefusesBegin};
+    ghost use Rattle.fdw_api.specs.Prelude.{table_of, Begins, RefusesBegin};
     ghost use Rattle.sqlite_tables.specs.Steady.{IsSteady};
     ghost use Rattle.sqlite_wrapper.specs.Clean.{AreKnown};
     ghost use Rattle.sqlite_wrapper.specs.SqliteBoxes.{IsNewSqlite};
@@ -150,13 +149,8 @@ impl<S: SourceStore + Drop> SqliteWrapper<S> {
 }
 
 impl<S: SourceStore + Drop> Wrapper for SqliteWrapper<S> {
-    ghost use Rattle.fdw_api.specs.Scan.{spec_by};
-    ghost use Rattle.fdw_api.specs.State.{table_of};
-    ghost use Rattle.fdw_api.specs.Calls.{CanBind, Binds, RefusesBind, Allows, CanBegin, Begins, RefusesBegin, IsOpen, Iterates, Breaks};
-    ghost use Rattle.fdw_api.specs.Calls.{CanRescan, Rescans};
-    ghost use Rattle.fdw_api.specs.Kinds.{column_of, option_form};
+    ghost use Rattle.fdw_api.specs.Prelude.{spec_by, table_of, CanBind, Binds, RefusesBind, Allows, CanBegin, Begins, RefusesBegin, IsOpen, Iterates, Breaks, CanRescan, Rescans, column_of, option_form, CanClose, Closes, RefusesClose};
     ghost use Rattle.sqlite_tables.specs.Steady.{IsSteady};
-    ghost use Rattle.fdw_api.specs.Writes.{CanClose, Closes, RefusesClose};
     ghost use Rattle.sqlite_wrapper.specs.Clean.{AreKnown, MayBeKept};
 
     ghost meaning = { λ w. sqlite_state S.honest (state S.Store w.conn).now w.bound.items w.scans w.staged w.next w.pulled w.faults };
@@ -467,9 +461,7 @@ impl<S: SourceStore + Drop> Wrapper for SqliteWrapper<S> {
 }
 
 impl<S: SourceStore + Drop> Wrapper2 for SqliteWrapper<S> {
-    ghost use Rattle.fdw_api.specs.State.{table_of};
-    ghost use Rattle.fdw_api.specs.Calls.{Begins, RefusesBegin};
-    ghost use Rattle.fdw_api.specs.Wishes.{all_exact, key_form, wish_form, spec2_of, spec2_by, is_fair, AllowsPromise, CanBegin2};
+    ghost use Rattle.fdw_api.specs.Prelude.{table_of, Begins, RefusesBegin, all_exact, key_form, wish_form, spec2_of, spec2_by, is_fair, AllowsPromise, CanBegin2};
     ghost use Rattle.sqlite_tables.specs.Steady.{IsSteady};
     ghost use Rattle.sqlite_wrapper.specs.Clean.{AreKnown};
 

@@ -2,14 +2,9 @@
 ghost use Rattle.std.specs.Prelude.{◌≡◌, ◌≢◌, ◌≤◌, true, false, None, map, length, IfOk, IfErr, IfSome, OnOk, OnErr, Contains};
 ghost use Rattle.std.specs.List.{list_all};
 ghost use Rattle.sqlite.specs.Held.{state};
-ghost use Rattle.med_value.specs.Causes.{phase_of};
-ghost use Rattle.med_value.specs.Limits.{row_limit};
-ghost use Rattle.fdw_api.specs.Calls.{not_refused};
-ghost use Rattle.fdw_api.specs.Kinds.{is_of_run};
-ghost use Rattle.fdw_api.specs.Writes.{row_of_change_fits, id_is_there};
-ghost use Rattle.sqlite_tables.specs.Layouts.{kinds_in, layout_at};
-ghost use Rattle.sqlite_tables.specs.Refusing.{OnlyBy};
-ghost use Rattle.sqlite_tables.specs.Tables.{IsKnown, IsSure, ReadsOnly, rows_of, tree_found};
+ghost use Rattle.med_value.specs.Prelude.{phase_of, row_limit};
+ghost use Rattle.fdw_api.specs.Prelude.{not_refused, is_of_run, row_of_change_fits, id_is_there};
+ghost use Rattle.sqlite_tables.specs.Prelude.{kinds_in, layout_at, OnlyBy, IsKnown, IsSure, ReadsOnly, rows_of, tree_found};
 ghost use Rattle.sqlite_writes.specs.Kinds.{write_causes};
 ghost use Rattle.sqlite_writes.specs.Splitting.{IsNamedOnce};
 ghost use Rattle.sqlite_writes.specs.Writable.{IsWritable, IsSureWrite};

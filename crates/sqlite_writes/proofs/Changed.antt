@@ -15,15 +15,10 @@ use Rattle.sqlite_trees.specs.Props.{rows_set, IsShaped-prop}
 use Rattle.sqlite_trees.specs.declared.store.Store.{Ghosts}
 use Rattle.sqlite.specs.State.{State, IsLive}
 use Rattle.sqlite.specs.Held.{Held, state}
-use Rattle.sqlite_tables.specs.Steady.{IsSteady, IsCleanAfter}
+use Rattle.sqlite_tables.specs.Prelude.{IsSteady, IsCleanAfter, IsPageText, layout_at, IsKnown, entries_in, entries_at, tree_of, IsDeleteText, IsInsertText, IsUnread, AreTexts}
 use Rattle.sqlite_tables.proofs.StoreTables.{steady_table}
 use Rattle.sqlite_trees.proofs.TreeLemmas.{IsShaped-filter}
-use Rattle.sqlite_tables.specs.StoreShapes.{IsPageText}
-use Rattle.sqlite_tables.specs.Layouts.{layout_at}
-use Rattle.sqlite_tables.specs.Tables.{IsKnown, entries_in, entries_at, tree_of}
 use Rattle.sqlite_tables.proofs.Settled.{tree_is}
-use Rattle.sqlite_tables.specs.Texts.{IsDeleteText, IsInsertText, IsUnread}
-use Rattle.sqlite_tables.specs.Shapes.{AreTexts}
 use Rattle.sqlite_writes.specs.Writable.{IsWritable, IsAbsent, IsSureStep, KeepsTables, StepsTo}
 use Rattle.sqlite_writes.specs.Changes.{KeepsOthers, TakesOut, PutsIn}
 

@@ -11,17 +11,12 @@ use Rattle.std.proofs.lemmas.Int.{to_z-of_z}
 use Rattle.sqlite.specs.Order.{Row as SqlRow}
 use Rattle.sqlite.specs.Tree.{rowid}
 use Rattle.sqlite.specs.View.{is_int}
-use Rattle.sqlite_tables.specs.StoreShapes.{in_range, key_of, paged}
+use Rattle.sqlite_tables.specs.Prelude.{in_range, key_of, paged, Layout, kinds_in, cell_of, id_of, row_in, least, greatest}
 use Rattle.sqlite_trees.proofs.ListLemmas.{filter-map, filter_same, map-map}
-use Rattle.med_value.specs.Datum.{Datum, NoValue, Whole, Chars, Logic, Tuple, cell}
-use Rattle.med_value.specs.Order.{is_missing}
+use Rattle.med_value.specs.Prelude.{Datum, NoValue, Whole, Chars, Logic, Tuple, cell, is_missing}
 use Rattle.med_value.specs.declared.value.ColType.{ColType}
 use Rattle.med_value.specs.declared.value.ColType.TheVariants as types
-use Rattle.fdw_api.specs.Scan.{TableRow, has_kind, is_clean, row_fits}
-use Rattle.fdw_api.specs.Kinds.{Held, held, Change, Inserts, Updates, Deletes}
-use Rattle.fdw_api.specs.Writes.{has_id}
-use Rattle.sqlite_tables.specs.Layouts.{Layout, kinds_in}
-use Rattle.sqlite_tables.specs.Cells.{cell_of, id_of, row_in, least, greatest}
+use Rattle.fdw_api.specs.Prelude.{TableRow, has_kind, is_clean, row_fits, Held, held, Change, Inserts, Updates, Deletes, has_id}
 use Rattle.sqlite_tables.proofs.PagesJoin.{Inside, Ints, key_fits}
 use Rattle.sqlite_writes.specs.Stored.{stored}
 use Rattle.sqlite_writes.specs.Rewriting.{stored_cells}

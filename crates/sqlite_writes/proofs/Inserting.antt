@@ -1,7 +1,7 @@
 -- An insert text puts its row in where no row has its key, and is refused by the primary key only where one has.
 use Rattle.std.proofs.Common.{◌≡◌, inl, inr, ℕ, zero, suc, ◌-◌, ℤ, Bool, true, false, not, cond, ◌&&◌, List, [], ◌∷◌, ◌++◌, map, length, drop, Option, None, Some, Ok, Err, Result, MatchBool, option_map, refl, sym, ap, subst, ◌∙◌, arith, length-append}
 use Rattle.std.specs.Prelude.{if◌then◌else◌}
-use Rattle.std.proofs.lemmas.Bool.{cases_Bool}
+use Rattle.std.proofs.lemmas.Bool.{cases_Bool, not-true}
 use Rattle.sqlite.specs.declared.types.Value.{Value}
 use Rattle.sqlite.specs.declared.types.Value.TheVariants.{Null, Int}
 use Rattle.sqlite.specs.Order.{Row}
@@ -107,10 +107,6 @@ off_both false x P Q e h = h
 both_true : (a b : Bool) → (a && b) ≡ true → a ≡ true
 both_true true b e = refl
 both_true false b e = e
-
-not_back : (b : Bool) → not b ≡ true → b ≡ false
-not_back true e = cc
-not_back false e = refl
 
 both_false : (a : Bool) → (not a && true) ≡ false → a ≡ true
 both_false true e = refl
@@ -237,7 +233,7 @@ module _ (old new : State) (id : ℤ) (a b : Value) (text : List ℕ) (tree : �
       let free : not (is_taken (db table.tree) row) ≡ true = both_true _ _ (subst (λ all. are_fresh (db table.tree) all ≡ true) fresh applied.fresh) in
       record {
         schema = ap (λ (d : Database). d.schema) now;
-        free = not_back _ (subst (λ (t : ℕ). not (is_taken (db t) row) ≡ true) is.target.tree_is free);
+        free = not-true _ (subst (λ (t : ℕ). not (is_taken (db t) row) ≡ true) is.target.tree_is free);
         rows = ap (λ (t : Trees). t tree) next ∙ subst (λ (t : ℕ). written.0 t ≡ put_row row (db t)) is.target.tree_is here;
         others = others_kept old.now new.now table tree edit refl is.target.tree_is (subst (Applies old.now.schema Enforced db edit) (sym next) applied);
       }

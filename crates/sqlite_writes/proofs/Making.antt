@@ -12,16 +12,9 @@ use Rattle.sqlite.specs.Listing.{understood}
 use Rattle.sqlite.specs.Effect.{Database}
 use Rattle.sqlite.specs.State.{State, Writes, Executes}
 use Rattle.sqlite.proofs.Callers.{IsPlain, command_of, statement_of, runs_as}
-use Rattle.sqlite_tables.specs.StoreShapes.{IsPageText}
-use Rattle.fdw_api.specs.Scan.{TableRow}
-use Rattle.fdw_api.specs.Kinds.{Entry, Stored}
-use Rattle.sqlite_tables.specs.Layouts.{Layout, kinds_in, layout_at, layout_count, orders, people}
-use Rattle.sqlite_tables.specs.Cells.{rows_in}
+use Rattle.sqlite_tables.specs.Prelude.{IsPageText, Layout, kinds_in, layout_at, layout_count, orders, people, rows_in, is_of_shape, IsKnown, tree_of, tree_found, entry_of, IsTableAt, IsDeleteText, IsInsertText, AreTexts, orders_table, people_table}
+use Rattle.fdw_api.specs.Prelude.{TableRow, Entry, Stored}
 use Rattle.sqlite_trees.specs.Tree.{Trees}
-use Rattle.sqlite_tables.specs.Fitting.{is_of_shape}
-use Rattle.sqlite_tables.specs.Tables.{IsKnown, tree_of, tree_found, entry_of}
-use Rattle.sqlite_tables.specs.Texts.{IsTableAt, IsDeleteText, IsInsertText}
-use Rattle.sqlite_tables.specs.Shapes.{AreTexts, orders_table, people_table}
 use Rattle.sqlite_tables.proofs.Settled.{tree_is}
 use Rattle.sqlite_writes.specs.Writable.{AreApart, IsWritable}
 use Rattle.med_value.specs.declared.value.ColType.TheVariants as types

@@ -8,8 +8,7 @@ use Rattle.std.proofs.lemmas.Bool.{and_parts}
 use Rattle.std.specs.Cmp.{both_ways}
 use Rattle.std.proofs.lemmas.List.Sorted.{list_any-IsPermutation, IsPermutation-refl, IsPermutation-cons, IsPermutation-middle, IsPermutation-trans}
 use Rattle.sqlite_trees.proofs.ListLemmas.{along_permutation}
-use Rattle.med_value.specs.Datum.{Datum}
-use Rattle.med_value.specs.Order.{datum_cmp, is_missing}
+use Rattle.med_value.specs.Prelude.{Datum, datum_cmp, is_missing}
 use Rattle.med_value.proofs.OrderLemmas.{datum_cmp_equal}
 use Rattle.sqlite_writes.specs.Kinds.{repeats}
 

@@ -13,14 +13,10 @@ use Rattle.sqlite.specs.Tree.{rowid, IsTable}
 use Rattle.sqlite.specs.View.{IsShaped, is_int}
 use Rattle.sqlite_trees.specs.declared.store.Shape.TheVariants as shape
 use Rattle.sqlite_trees.proofs.ListLemmas.{all-filter, ascending-filter, filter_all, map-map, IsPermutation-filter}
-use Rattle.sqlite_tables.specs.StoreShapes.{in_range, key_of, paged}
+use Rattle.sqlite_tables.specs.Prelude.{in_range, key_of, paged, Layout, layout_at, row_in, rows_in, least, greatest}
 use Rattle.sqlite_tables.proofs.Unique.{Rises}
 use Rattle.med_value.specs.Datum.{Tuple}
-use Rattle.fdw_api.specs.Scan.{TableRow}
-use Rattle.fdw_api.specs.Kinds.{held, Change}
-use Rattle.fdw_api.specs.Writes.{rows_after}
-use Rattle.sqlite_tables.specs.Layouts.{Layout, layout_at}
-use Rattle.sqlite_tables.specs.Cells.{row_in, rows_in, least, greatest}
+use Rattle.fdw_api.specs.Prelude.{TableRow, held, Change, rows_after}
 use Rattle.sqlite_tables.proofs.PagesJoin.{Ints, inside_filter}
 use Rattle.sqlite_tables.proofs.Once.{ids_once}
 use Rattle.sqlite_writes.specs.Rewriting.{stored_cells, rewritten, repeats_key}

@@ -7,16 +7,12 @@ use Rattle.std.proofs.lemmas.Int.{ints}
 use Rattle.std.proofs.lemmas.List.{map-append}
 use Rattle.std.proofs.lemmas.List.Elements.{All-nil, All-cons}
 use Rattle.std.proofs.lemmas.Str.{is_utf8-from_IsUtf8, IsUtf8-string_bytes}
-use Rattle.med_value.specs.Datum.{Whole, Tuple, datum, tuple, cell}
-use Rattle.med_value.specs.Order.{is_missing}
+use Rattle.med_value.specs.Prelude.{Whole, Tuple, datum, tuple, cell, is_missing}
 use Rattle.med_value.specs.declared.value.Value.{Value}
 use Rattle.med_value.specs.declared.value.Value.TheVariants.{Null, Int, Text, Bool as Truth}
 use Rattle.med_value.specs.declared.value.Row.{Row}
-use Rattle.fdw_api.specs.Scan.{row_fits}
-use Rattle.fdw_api.specs.Kinds.{Change}
-use Rattle.fdw_api.specs.Writes.{row_of_change_fits}
-use Rattle.sqlite_tables.specs.Layouts.{kinds_in, layout_at}
-use Rattle.sqlite_tables.specs.Cells.{least, greatest}
+use Rattle.fdw_api.specs.Prelude.{row_fits, Change, row_of_change_fits}
+use Rattle.sqlite_tables.specs.Prelude.{kinds_in, layout_at, least, greatest}
 use Rattle.sqlite_writes.specs.Rewriting.{has_place}
 use Rattle.sqlite_writes.specs.Kinds.{lacks_key}
 use Rattle.sqlite_writes.specs.Splitting.{id_of_change, row_of_change, ids_named, keys_gone, rows_come, key_for, is_key, is_readable, is_holdable}

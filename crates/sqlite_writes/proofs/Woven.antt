@@ -9,9 +9,7 @@ use Rattle.std.proofs.lemmas.List.Sorted.{IsPermutation-cons, IsPermutation-midd
 use Rattle.std.proofs.lemmas.Map.Keys.{IsDistinct-head, IsDistinct-tail, IsDistinct-IsPermutation}
 use Rattle.sqlite_trees.proofs.ListLemmas.{IsPermutation-same, IsPermutation-flat_map}
 use Rattle.med_value.specs.Datum.{Tuple}
-use Rattle.fdw_api.specs.Scan.{TableRow}
-use Rattle.fdw_api.specs.Kinds.{Held, held, Change, Inserts, Updates, Deletes}
-use Rattle.fdw_api.specs.Writes.{names_id, has_id, id_is_there, row_after, inserted, rows_after}
+use Rattle.fdw_api.specs.Prelude.{TableRow, Held, held, Change, Inserts, Updates, Deletes, names_id, has_id, id_is_there, row_after, inserted, rows_after}
 use Rattle.sqlite_writes.specs.Kinds.{no_line}
 use Rattle.sqlite_writes.specs.Splitting.{ids_named, rows_come, IsNamedOnce}
 use Rattle.sqlite_writes.proofs.Edits.{filter_true, filter_twice}

@@ -3,15 +3,10 @@ use Rattle.std.specs.Prelude.{◌≡◌, ℕ, Bool, true, false, not, ◌&&◌, 
 use Rattle.std.specs.List.{list_all, list_any}
 use Rattle.std.specs.Ordering.{is_le, is_eq}
 use mathlib.Core.Path.{ap, ◌∙◌}
-use Rattle.med_value.specs.Datum.{Datum, Tuple, cell}
-use Rattle.med_value.specs.Order.{datum_cmp, is_missing}
+use Rattle.med_value.specs.Prelude.{Datum, Tuple, cell, datum_cmp, is_missing, phase_of, row_limit}
 use Rattle.med_value.specs.declared.cause.Cause.{Cause}
 use Rattle.med_value.specs.declared.cause.Cause.TheVariants.{TooLarge, NotNull, NotUnique}
-use Rattle.med_value.specs.Causes.{phase_of}
-use Rattle.med_value.specs.Limits.{row_limit}
-use Rattle.fdw_api.specs.Scan.{TableRow}
-use Rattle.fdw_api.specs.Kinds.{Held, Change, Inserts, Updates, Deletes, Refusals, Arrangement, is_of_run}
-use Rattle.fdw_api.specs.Writes.{rows_after}
+use Rattle.fdw_api.specs.Prelude.{TableRow, Held, Change, Inserts, Updates, Deletes, Refusals, Arrangement, is_of_run, rows_after}
 use Rattle.std.proofs.lemmas.List.Sorted.{IsPermutation-refl, IsPermutation-cons, IsPermutation-trans, IsPermutation-middle}
 
 -- a row of a database keeps no line

@@ -2,8 +2,7 @@
 use Rattle.std.specs.Prelude.{ℕ, ℤ, Bool, not, ◌&&◌, List, [], ◌∷◌, map}
 use Rattle.sqlite.specs.Order.{Row as SqlRow}
 use Rattle.sqlite.specs.Edit.{without_all, put_all, are_fresh}
-use Rattle.med_value.specs.Datum.{Datum, Whole, Tuple, cell}
-use Rattle.med_value.specs.Order.{is_missing}
+use Rattle.med_value.specs.Prelude.{Datum, Whole, Tuple, cell, is_missing}
 use Rattle.fdw_api.specs.Scan.{row_fits}
 use Rattle.sqlite_tables.specs.Layouts.{layout_at, kinds_in}
 use Rattle.sqlite_writes.specs.Stored.{stored_row}

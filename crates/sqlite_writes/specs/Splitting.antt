@@ -9,12 +9,10 @@ use Rattle.sqlite.specs.View.{IsShaped}
 use Rattle.sqlite_trees.specs.declared.store.Shape.TheVariants as shape
 use Rattle.med_value.specs.Datum.{Datum, NoValue, Whole, Chars, Logic, Tuple, cell}
 use Rattle.med_value.specs.declared.cause.Cause.TheVariants.{NotNull}
-use Rattle.fdw_api.specs.Kinds.{Change, Inserts, Updates, Deletes}
-use Rattle.fdw_api.specs.Writes.{id_is_there}
+use Rattle.fdw_api.specs.Prelude.{Change, Inserts, Updates, Deletes, id_is_there}
 use Rattle.fdw_api.specs.declared.interface.Fault.{Fault}
 use Rattle.fdw_api.specs.declared.interface.Fault.TheVariants.{NoMemory, Source, Refused}
-use Rattle.sqlite_tables.specs.Layouts.{layout_at}
-use Rattle.sqlite_tables.specs.Cells.{rows_in, least, greatest}
+use Rattle.sqlite_tables.specs.Prelude.{layout_at, rows_in, least, greatest}
 use Rattle.sqlite_writes.specs.Rewriting.{has_place}
 use Rattle.sqlite_writes.specs.Kinds.{lacks_key}
 

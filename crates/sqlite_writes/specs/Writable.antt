@@ -5,11 +5,7 @@ use Rattle.sqlite.specs.Effect.{Database}
 use Rattle.sqlite.specs.State.{State}
 use Rattle.sqlite.specs.View.{IsShaped}
 use Rattle.sqlite_trees.specs.declared.store.Shape.TheVariants as shape
-use Rattle.sqlite_tables.specs.Steady.{IsCleanAfter}
-use Rattle.sqlite_tables.specs.Layouts.{Layout, layout_at, layout_count}
-use Rattle.sqlite_tables.specs.Tables.{IsKnown, entries_in, tree_of}
-use Rattle.sqlite_tables.specs.Texts.{IsUnread}
-use Rattle.sqlite_tables.specs.Shapes.{AreTexts}
+use Rattle.sqlite_tables.specs.Prelude.{IsCleanAfter, Layout, layout_at, layout_count, IsKnown, entries_in, tree_of, IsUnread, AreTexts}
 
 -- none of the three texts of a layout is understood
 pub record IsAbsent (schema : Schema) (l : Layout) : Type 0 where

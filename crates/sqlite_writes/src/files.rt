@@ -2,8 +2,7 @@
 ghost use Rattle.std.specs.Prelude.{◌≡◌, ℕ, true, false, List, Option, Some, IfSome, IfOk, IfErr};
 ghost use Rattle.sqlite_wal.specs.Recovery.{Image};
 ghost use Rattle.sqlite.specs.Held.{state};
-ghost use Rattle.sqlite_tables.specs.Layouts.{layout_at};
-ghost use Rattle.sqlite_tables.specs.Tables.{IsKnown};
+ghost use Rattle.sqlite_tables.specs.Prelude.{layout_at, IsKnown};
 ghost use Rattle.sqlite_writes.specs.Writable.{AreApart, IsWritable};
 ghost use Rattle.sqlite_writes.specs.Found.{Errors, Follows, IsFoundAt, ShowsAt, ShowsKnown};
 

@@ -3,8 +3,7 @@ ghost use Rattle.std.specs.Prelude.{◌≡◌, ℕ, false, [], Some, IfOk, OnOk}
 ghost use Rattle.fdw_api.specs.Kinds.{Stored};
 ghost use Rattle.sqlite.specs.Held.{state};
 ghost use Rattle.sqlite.specs.Steps.{over_memory};
-ghost use Rattle.sqlite_tables.specs.Layouts.{kinds_in, layout_at};
-ghost use Rattle.sqlite_tables.specs.Tables.{IsKnown, entry_of};
+ghost use Rattle.sqlite_tables.specs.Prelude.{kinds_in, layout_at, IsKnown, entry_of};
 ghost use Rattle.sqlite_writes.specs.Writable.{AreApart, IsWritable};
 ghost use Rattle.sqlite_writes.specs.Made.{no_tables, orders_alone, both_tables};
 

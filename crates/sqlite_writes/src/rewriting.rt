@@ -8,9 +8,7 @@ ghost use Rattle.sqlite_trees.specs.declared.store.Shape.TheVariants as shape;
 ghost use Rattle.med_value.specs.Datum.{tuple};
 ghost use Rattle.med_value.specs.declared.cause.Cause.TheVariants.{NotUnique};
 ghost use Rattle.fdw_api.specs.Calls.{not_refused};
-ghost use Rattle.sqlite_tables.specs.Steady.{IsCleanAfter};
-ghost use Rattle.sqlite_tables.specs.Tables.{entries_in};
-ghost use Rattle.sqlite_tables.specs.Refusing.{OnlyBy};
+ghost use Rattle.sqlite_tables.specs.Prelude.{IsCleanAfter, entries_in, OnlyBy};
 ghost use Rattle.sqlite_writes.specs.Writable.{IsWritable, IsSureStep, IsSureWrite, KeepsTables, StepsTo};
 ghost use Rattle.sqlite_writes.specs.Rewriting.{has_place, stored_cells, rewritten, repeats_key};
 

@@ -7,12 +7,8 @@ ghost use Rattle.sqlite.specs.Edit.{is_taken};
 ghost use Rattle.sqlite_trees.specs.declared.store.Shape.TheVariants as shape;
 ghost use Rattle.med_value.specs.Datum.{datum};
 ghost use Rattle.med_value.specs.declared.cause.Cause.TheVariants.{NotUnique};
-ghost use Rattle.fdw_api.specs.Calls.{not_refused};
-ghost use Rattle.fdw_api.specs.Scan.{cell_fits};
-ghost use Rattle.sqlite_tables.specs.Steady.{IsCleanAfter};
-ghost use Rattle.sqlite_tables.specs.Layouts.{layout_at};
-ghost use Rattle.sqlite_tables.specs.Tables.{entries_in};
-ghost use Rattle.sqlite_tables.specs.Refusing.{OnlyBy};
+ghost use Rattle.fdw_api.specs.Prelude.{not_refused, cell_fits};
+ghost use Rattle.sqlite_tables.specs.Prelude.{IsCleanAfter, layout_at, entries_in, OnlyBy};
 ghost use Rattle.sqlite_writes.specs.Writable.{IsWritable, IsSureStep, KeepsTables, StepsTo};
 ghost use Rattle.sqlite_writes.specs.Stored.{stored_row, taken_key};
 

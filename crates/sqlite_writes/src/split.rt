@@ -1,11 +1,9 @@
 //! The changes of a write, split into the keys of the rows that go and the rows that come.
 ghost use Rattle.std.specs.Prelude.{◌≡◌, ℕ, true, false, not, map, All, IfOk, IfErr};
 ghost use Rattle.std.specs.List.{list_all, list_any};
-ghost use Rattle.med_value.specs.Datum.{tuple, cell};
-ghost use Rattle.med_value.specs.Order.{is_missing};
+ghost use Rattle.med_value.specs.Prelude.{tuple, cell, is_missing};
 ghost use Rattle.med_value.specs.declared.cause.Cause.TheVariants.{NotNull};
-ghost use Rattle.fdw_api.specs.Scan.{row_fits};
-ghost use Rattle.fdw_api.specs.Writes.{row_of_change_fits};
+ghost use Rattle.fdw_api.specs.Prelude.{row_fits, row_of_change_fits};
 ghost use Rattle.wrapper_parts.specs.Staged.{change_is};
 ghost use Rattle.sqlite_tables.specs.Layouts.{kinds_in, layout_at};
 ghost use Rattle.sqlite_writes.specs.Rewriting.{has_place};

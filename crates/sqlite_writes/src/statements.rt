@@ -9,8 +9,7 @@ ghost use Rattle.med_value.specs.Datum.{datum};
 ghost use Rattle.med_value.specs.declared.value.ColType.{ColType as CellType};
 ghost use Rattle.fdw_api.specs.Scan.{cell_fits};
 ghost use Rattle.std.specs.Prelude.{Some};
-ghost use Rattle.sqlite_tables.specs.Steady.{IsCleanAfter};
-ghost use Rattle.sqlite_tables.specs.Texts.{IsDeleteText, IsInsertText, IsUnread};
+ghost use Rattle.sqlite_tables.specs.Prelude.{IsCleanAfter, IsDeleteText, IsInsertText, IsUnread};
 ghost use Rattle.sqlite_writes.specs.Changes.{TakesOut, PutsIn};
 ghost use Rattle.sqlite_writes.specs.Stored.{stored, stored_row, taken_key};
 

@@ -5,8 +5,7 @@
 ghost use Rattle.std.specs.Prelude.{◌≡◌, ℕ, true, false, Some, None, IsTrue, IfOk};
 ghost use Rattle.sqlite_std_file.specs.File.{file_is_usable};
 ghost use Rattle.sqlite.specs.Files.{file_state, image_of};
-ghost use Rattle.sqlite_tables.specs.Layouts.{layout_at};
-ghost use Rattle.sqlite_tables.specs.Tables.{IsKnown};
+ghost use Rattle.sqlite_tables.specs.Prelude.{layout_at, IsKnown};
 ghost use Rattle.sqlite_writes.specs.Writable.{AreApart, IsWritable};
 ghost use Rattle.sqlite_writes.specs.Found.{ShowsImage};
 

@@ -1,7 +1,6 @@
 //! An engine over the demo list.
 ghost use Rattle.list_wrapper.specs.ListBoxes.{box_of};
-ghost use Rattle.med_session.specs.Engine.{IsSound};
-ghost use Rattle.med_session.specs.Shows.{shown};
+ghost use Rattle.med_session.specs.Prelude.{IsSound, shown};
 ghost use Rattle.std.specs.Prelude.{IfOk};
 
 use fed_setup::demo::demo_tables;

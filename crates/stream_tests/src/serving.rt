@@ -1,7 +1,6 @@
 //! Streams that end, close or go on in the middle, by reads that fail, by a count of reads and where there is no room; and scripts.
 ghost use Rattle.list_wrapper.specs.ListBoxes.{box_of};
-ghost use Rattle.med_session.specs.Engine.{IsSound};
-ghost use Rattle.med_session.specs.Shows.{shown};
+ghost use Rattle.med_session.specs.Prelude.{IsSound, shown};
 ghost use Rattle.session_wire.specs.Servers.{handler_of};
 ghost use Rattle.std.specs.Prelude.{◌≡◌, ⊤, true, IfOk};
 

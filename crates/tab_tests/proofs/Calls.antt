@@ -3,12 +3,10 @@ use Rattle.std.proofs.Common.{◌≡◌, ℕ, List, [], ◌∷◌, Option, Some,
 use Rattle.std.specs.Ordering.{nat_cmp}
 use Rattle.std.specs.FinMap as finmap
 use Rattle.std.specs.FinMap.{gets}
+use Rattle.std.proofs.lemmas.Option.{same_Some}
 use Rattle.med_value.specs.Datum.{Chars, Tuple}
 use Rattle.med_value.specs.declared.value.ColType.{ColType}
-use Rattle.fdw_api.specs.Scan.{RestrictionForm, Spec, params_fit}
-use Rattle.fdw_api.specs.Kinds.{Column, OptionForm, kinds_of}
-use Rattle.fdw_api.specs.State.{BoxState, Scan, table_of, scan_of, set_at}
-use Rattle.fdw_api.specs.Calls.{Binds, Begins, Iterates, Breaks, CanRescan, Rescans}
+use Rattle.fdw_api.specs.Prelude.{RestrictionForm, Spec, params_fit, Column, OptionForm, kinds_of, BoxState, Scan, table_of, scan_of, set_at, Binds, Begins, Iterates, Breaks, CanRescan, Rescans}
 use Rattle.fdw_api.specs.declared.interface.Fault.{Fault}
 use Rattle.fdw_api.specs.declared.interface.SourceRow.{SourceRow}
 use Rattle.tab_tests.specs.Tabs.{texts}
@@ -16,9 +14,6 @@ use Rattle.tab_tests.specs.Going.{IsGoing, IsTabTable, by_name}
 
 put_same : {X : Type 0} (m : finmap.FinMap nat_cmp X) (k : ℕ) (v : X) → finmap.get (finmap.insert m k v) k ≡ Some v
 put_same m k v = grind (gets, rules)
-
-pub some_inj : {A : Type 0} (a b : A) → Some a ≡ Some b → a ≡ b
-some_inj a b q = cc
 
 set_same : {X : Type 0} (f : ℕ → X) (k : ℕ) (x : X) → set_at f k x k ≡ x
 set_same f k x = search rules
@@ -61,7 +56,7 @@ given_goes_on old new n None g c = record {
   typed = c.typed;
 }
 given_goes_on old new n (Some row) g c =
-    let same : g.scan ≡ c.scan = some_inj g.scan c.scan (sym g.at ∙ c.at) in
+    let same : g.scan ≡ c.scan = same_Some g.scan c.scan (sym g.at ∙ c.at) in
     record {
       scan = record c.scan { left = g.left };
       at = ap (λ z. finmap.get z.live n) g.ledger ∙ put_same old.ledger.live n _ ∙ ap (λ (z : Scan). Some (record z { left = g.left })) same;
@@ -75,7 +70,7 @@ given_goes_on old new n (Some row) g c =
 -- and as it begins again
 pub again_goes_on : (old new : BoxState) (n : ℕ) (params : Tuple) → Rescans old n params new → IsGoing old n → IsGoing new n
 again_goes_on old new n params r c =
-    let same : r.scan ≡ c.scan = some_inj r.scan c.scan (sym r.at ∙ c.at) in
+    let same : r.scan ≡ c.scan = same_Some r.scan c.scan (sym r.at ∙ c.at) in
     record {
       scan = _;
       at = ap (λ z. finmap.get z.live n) r.ledger ∙ put_same old.ledger.live n _;

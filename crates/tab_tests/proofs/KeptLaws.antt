@@ -1,18 +1,14 @@
 -- Tables of tab-separated lines as tables by place.
 use Rattle.std.proofs.Common.{◌≡◌, ℕ, ◌+◌, ◌<◌, ◌++◌, List, [], ◌∷◌, Some, length, map, flat_map, get_or, slice_get, replicate, zero, suc, refl, ap, sym, ◌∙◌, arith}
 use Rattle.std.proofs.lemmas.List.{map-append}
+use Rattle.std.proofs.lemmas.Option.{same_Some}
 use Rattle.med_value.specs.Datum.{Tuple, tuple}
 use Rattle.med_value.specs.declared.value.Row.{Row}
-use Rattle.fdw_api.specs.Scan.{TableRow}
-use Rattle.fdw_api.specs.Kinds.{Held, held, Change}
-use Rattle.fdw_api.specs.Writes.{rows_after, row_after, inserted}
+use Rattle.fdw_api.specs.Prelude.{TableRow, Held, held, Change, rows_after, row_after, inserted}
 use Rattle.wrapper_parts.specs.declared.fates.Fate.{Fate}
 use Rattle.wrapper_parts.specs.declared.fates.Fate.TheVariants.{Keep}
 use Rattle.wrapper_parts.proofs.Weaves.{left_from}
 use Rattle.tab_tests.specs.Kept.{no_line, as_held, numbered, left_by, rows_left}
-
-some_inj : {A : Type 0} (a b : A) → Some a ≡ Some b → a ≡ b
-some_inj a b q = cc
 
 pub rows_length : (n : ℕ) (rows : List Row) → length (numbered n (map tuple rows)) ≡ length rows
 rows_length n [] = refl
@@ -22,7 +18,7 @@ rows_length n (r ∷ rs) = ap (λ (k : ℕ). suc k) (rows_length (n + 1) rs)
 pub row_there : (n at : ℕ) (rows : List Row) (row : Row) (r : TableRow) → at < length rows → row ≡ get_or rows at row
     → slice_get (numbered n (map tuple rows)) at ≡ Some r → tuple row ≡ r.cells
 row_there n at [] row r lt e is = absurd (omega arith)
-row_there n zero (x ∷ rows) row r lt e is = ap tuple e ∙ ap (λ (z : TableRow). z.cells) (some_inj _ r is)
+row_there n zero (x ∷ rows) row r lt e is = ap tuple e ∙ ap (λ (z : TableRow). z.cells) (same_Some _ r is)
 row_there n (suc at) (x ∷ rows) row r lt e is = row_there (n + 1) at rows row r (omega arith) e is
 
 pub held_numbered : (n : ℕ) (rows : List Tuple) → map held (numbered n rows) ≡ map as_held rows

@@ -9,10 +9,7 @@ use Rattle.med_value.specs.declared.value.ColType.{ColType}
 use Rattle.med_value.specs.declared.value.ColType.TheVariants as types
 use Rattle.med_value.specs.declared.cause.Cause.{Cause}
 use Rattle.med_value.specs.declared.cause.Cause.TheVariants.{InvalidFormat, InvalidText}
-use Rattle.fdw_api.specs.Scan.{row_fits}
-use Rattle.fdw_api.specs.Kinds.{Column, OptionForm, Bytes, Held, Change, kinds_of}
-use Rattle.fdw_api.specs.Calls.{IsLeast}
-use Rattle.fdw_api.specs.Writes.{rows_after}
+use Rattle.fdw_api.specs.Prelude.{row_fits, Column, OptionForm, Bytes, Held, Change, kinds_of, IsLeast, rows_after}
 use Rattle.fdw_api.specs.declared.interface.Fault.TheVariants.{Refused}
 use Rattle.place_wrapper.specs.Forms.{ReadsAs, RefusesContent, Rewrites, RefusesChanges}
 use Rattle.place_wrapper.proofs.Causes.{only_cause}

@@ -1,8 +1,7 @@
 -- A scan of a table of two columns of text, that was offered `name = $1` and goes on through several rounds of parameters.
 use Rattle.std.specs.Prelude.{◌≡◌, ℕ, false, List, [], ◌∷◌, Some}
 use Rattle.med_value.specs.declared.order.Comparison.TheVariants as comparisons
-use Rattle.fdw_api.specs.Scan.{RestrictionForm, Compares, Slot}
-use Rattle.fdw_api.specs.State.{BoxState, BoxTable, Scan, table_of, scan_of}
+use Rattle.fdw_api.specs.Prelude.{RestrictionForm, Compares, Slot, BoxState, BoxTable, Scan, table_of, scan_of}
 use Rattle.tab_tests.specs.Tabs.{texts}
 
 -- `name = $1`

@@ -2,8 +2,7 @@
 use Rattle.std.specs.Prelude.{ℕ, ◌+◌, List, [], ◌∷◌}
 use Rattle.med_value.specs.Datum.{Tuple, tuple}
 use Rattle.med_value.specs.declared.value.Row.{Row}
-use Rattle.fdw_api.specs.Scan.{TableRow}
-use Rattle.fdw_api.specs.Kinds.{Held, Change}
+use Rattle.fdw_api.specs.Prelude.{TableRow, Held, Change}
 use Rattle.wrapper_parts.specs.declared.fates.Fate.{Fate}
 use Rattle.wrapper_parts.specs.Weaving as weaving
 

@@ -4,16 +4,12 @@ use Rattle.std.specs.String.{string_bytes}
 use mathlib.Core.Path.{refl, ap, ◌∙◌}
 use Rattle.std.specs.List.{list_all}
 use Rattle.std.specs.Str.{is_utf8}
-use Rattle.med_value.specs.Datum.{Tuple, tuple}
-use Rattle.med_value.specs.Causes.{phase_of}
+use Rattle.med_value.specs.Prelude.{Tuple, tuple, phase_of}
 use Rattle.med_value.specs.declared.cause.Cause.{Cause}
 use Rattle.med_value.specs.declared.cause.Cause.TheVariants.{TableNotFound, DatatypeMismatch, InvalidOptionName, InvalidFormat, InvalidText}
 use Rattle.med_value.specs.declared.value.ColType.{ColType}
 use Rattle.med_value.specs.declared.value.ColType.TheVariants as types
-use Rattle.fdw_api.specs.Scan.{TableRow, row_fits}
-use Rattle.fdw_api.specs.Kinds.{Kind, Column, OptionForm, Entry, Bytes, Stored, Held, Reading, Refusals, kinds_of, all_fit, as_they_come, is_of_run}
-use Rattle.fdw_api.specs.State.{BoxTable}
-use Rattle.fdw_api.specs.Writes.{rows_after}
+use Rattle.fdw_api.specs.Prelude.{TableRow, row_fits, Kind, Column, OptionForm, Entry, Bytes, Stored, Held, Reading, Refusals, kinds_of, all_fit, as_they_come, is_of_run, BoxTable, rows_after}
 use Rattle.fdw_api.specs.declared.scan.Agree.TheVariants.{Ignored}
 use Rattle.wrapper_parts.specs.Scans.{takes}
 use Rattle.wrapper_parts.proofs.Taking.{takes_exact, takes_sound}

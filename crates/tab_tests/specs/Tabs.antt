@@ -3,9 +3,8 @@ use Rattle.std.specs.Prelude.{ℕ, Bool, true, false, not, ◌&&◌, ◌||◌, �
 use Rattle.std.specs.List.{list_all, list_any, slice_split}
 use Rattle.std.specs.Str.{is_utf8}
 use Rattle.std.specs.Str.Lines.{lines}
-use Rattle.med_value.specs.Datum.{Datum, NoValue, Whole, Chars, Logic, Tuple, tuple}
+use Rattle.med_value.specs.Prelude.{Datum, NoValue, Whole, Chars, Logic, Tuple, tuple, row_text}
 use Rattle.med_value.specs.declared.value.Row.{Row}
-use Rattle.med_value.specs.Text.{row_text}
 use Rattle.med_value.specs.declared.value.ColType.{ColType}
 use Rattle.med_value.specs.declared.value.ColType.TheVariants as types
 use Rattle.fdw_api.specs.Scan.{row_fits}

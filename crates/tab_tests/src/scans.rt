@@ -1,8 +1,6 @@
 //! Scans by `name = $1` that are begun again, over a blob of tab-separated lines: the wrapper goes by an index of the column then.
 ghost use Rattle.std.specs.Prelude.{◌≡◌, [], map, IfOk, OnOk, IsSome};
-ghost use Rattle.fdw_api.specs.Scan.{restriction_form};
-ghost use Rattle.fdw_api.specs.Kinds.{column_of, kinds_of};
-ghost use Rattle.fdw_api.specs.State.{IsIdle, scan_of};
+ghost use Rattle.fdw_api.specs.Prelude.{restriction_form, column_of, kinds_of, IsIdle, scan_of};
 ghost use Rattle.tab_tests.specs.Tabs.{texts};
 ghost use Rattle.tab_tests.specs.TabForms.{tab_kind};
 ghost use Rattle.tab_tests.specs.Going.{IsGoing, IsTabTable, by_name};

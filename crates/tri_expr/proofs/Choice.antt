@@ -4,8 +4,7 @@ use Rattle.std.specs.declared.cmp.Ordering.{Ordering}
 use Rattle.std.specs.declared.cmp.Ordering.TheVariants.{Less, Equal, Greater}
 use Rattle.std.specs.Ordering.{ordering_reverse}
 use Rattle.std.specs.Cmp.{IsTotalOrder}
-use Rattle.med_value.specs.Datum.{Datum}
-use Rattle.med_value.specs.Order.{datum_cmp}
+use Rattle.med_value.specs.Prelude.{Datum, datum_cmp}
 use Rattle.med_value.proofs.OrderLemmas.{datum_cmp_total}
 
 self_reverse : (o : Ordering) → o ≡ ordering_reverse o → o ≡ Equal

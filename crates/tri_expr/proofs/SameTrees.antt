@@ -5,8 +5,7 @@ use Rattle.std.specs.declared.cmp.Ordering.TheVariants.{Less, Equal as Even, Gre
 use Rattle.std.specs.Ordering.{is_eq}
 use Rattle.std.proofs.lemmas.Bool.{false≢true}
 use Rattle.std.proofs.lemmas.Slice.Eq.{bytes_eq-Decides}
-use Rattle.med_value.specs.Datum.{Datum}
-use Rattle.med_value.specs.Order.{datum_cmp}
+use Rattle.med_value.specs.Prelude.{Datum, datum_cmp}
 use Rattle.med_value.proofs.OrderLemmas.{datum_cmp_equal}
 use Rattle.tri_expr.specs.declared.expr.SetFunction.{SetFunction}
 use Rattle.tri_expr.specs.declared.expr.SetFunction.TheVariants.{Count, Sum, Min, Max}

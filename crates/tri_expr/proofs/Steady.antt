@@ -4,8 +4,8 @@ use Rattle.std.specs.List.{list_all}
 use Rattle.std.specs.declared.cmp.Ordering.{Ordering}
 use Rattle.std.specs.declared.cmp.Ordering.TheVariants.{Less, Equal, Greater}
 use Rattle.std.specs.Ordering.{is_eq}
-use Rattle.med_value.specs.Datum.{Datum, Whole, Tuple, cell}
-use Rattle.med_value.specs.Order.{datum_cmp}
+use Rattle.std.proofs.lemmas.Bool.{and_parts}
+use Rattle.med_value.specs.Prelude.{Datum, Whole, Tuple, cell, datum_cmp}
 use Rattle.med_value.proofs.OrderLemmas.{datum_cmp_equal}
 use Rattle.tri_expr.proofs.Choice.{datum_cmp_self}
 use Rattle.tri_expr.proofs.Shuffled.{Shuffled, back, mapped, as_long, all_kept, none_left}
@@ -26,17 +26,13 @@ eq_only Less e = absurd cc
 eq_only Equal e = refl
 eq_only Greater e = absurd cc
 
-both_true : (p q : Bool) → (p && q) ≡ true → (p ≡ true) × (q ≡ true)
-both_true true q e = (refl, e)
-both_true false q e = absurd cc
-
 has_own : (at : ℕ) (r : Tuple) → has_cell at (cell r at) r ≡ true
 has_own at r = ap is_eq (datum_cmp_self (cell r at))
 
 -- all rows of the class have v
 pub all_have : (at : ℕ) (v : Datum) (s : Tuple) (ss : List Tuple) → list_all (has_cell at v) (s ∷ ss) ≡ true → shared at (s ∷ ss) ≡ v
 all_have at v s ss e =
-    let h = both_true (has_cell at v s) (list_all (has_cell at v) ss) e in
+    let h = and_parts (has_cell at v s) (list_all (has_cell at v) ss) e in
     let is : cell s at ≡ v = datum_cmp_equal (cell s at) v (eq_only (datum_cmp (cell s at) v) h.0) in
     rw is (rw h.1 refl)
 

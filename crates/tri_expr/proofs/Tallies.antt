@@ -3,8 +3,7 @@ use Rattle.std.proofs.Common.{◌≡◌, ℕ, ◌+◌, ℤ, pos, ◌+ℤ◌, Boo
 use Rattle.std.specs.declared.cmp.Ordering.TheVariants.{Equal}
 use Rattle.std.specs.Cmp.{IsTotalOrder}
 use Rattle.std.proofs.Math.IntN.{+ℤ_comm, +ℤ_assoc}
-use Rattle.med_value.specs.Datum.{Datum, NoValue, Whole, Chars, Logic}
-use Rattle.med_value.specs.Order.{datum_cmp, is_missing}
+use Rattle.med_value.specs.Prelude.{Datum, NoValue, Whole, Chars, Logic, datum_cmp, is_missing}
 use Rattle.med_value.proofs.OrderLemmas.{datum_cmp_total, datum_cmp_equal}
 use Rattle.tri_expr.proofs.Choice.{either, three, turned_over, turned_over_total}
 use Rattle.tri_expr.specs.declared.expr.SetFunction.{SetFunction}

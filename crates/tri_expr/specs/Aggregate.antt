@@ -2,8 +2,7 @@
 -- (SQL standard, 10.9 <aggregate function>).
 use Rattle.std.specs.Prelude.{ℕ, ℤ, pos, ◌+ℤ◌, Bool, not, ◌==◌, if◌then◌else◌, List, length, filter}
 use Rattle.std.specs.Ordering.{is_lt}
-use Rattle.med_value.specs.Datum.{Datum, NoValue, Whole}
-use Rattle.med_value.specs.Order.{datum_cmp, is_missing}
+use Rattle.med_value.specs.Prelude.{Datum, NoValue, Whole, datum_cmp, is_missing}
 use Rattle.tri_expr.specs.Lists.{gather}
 use Rattle.tri_expr.specs.declared.expr.SetFunction.{SetFunction}
 use Rattle.tri_expr.specs.declared.expr.SetFunction.TheVariants.{Count, Sum, Min, Max}

@@ -11,3 +11,4 @@ pub mod Tree
 pub mod Meaning
 pub mod Laws
 pub mod TreeParts
+pub mod Prelude

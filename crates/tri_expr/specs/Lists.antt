@@ -1,8 +1,7 @@
 -- A list gathered by an operation, from its last element on, and values that are equal.
 use Rattle.std.specs.Prelude.{Bool, List, [], ◌∷◌}
 use Rattle.std.specs.Ordering.{is_eq}
-use Rattle.med_value.specs.Datum.{Datum}
-use Rattle.med_value.specs.Order.{datum_cmp}
+use Rattle.med_value.specs.Prelude.{Datum, datum_cmp}
 
 -- a sum, a least, a greatest: `start` stands for no element
 abbrev pub gather : {X A : Type 0} → (X → A → A) → A → List X → A

@@ -3,8 +3,7 @@
 use Rattle.std.specs.Prelude.{ℕ, Bool, true, false, if◌then◌else◌, List, [], ◌∷◌, map, length, pos}
 use Rattle.std.specs.List.{list_all}
 use Rattle.std.specs.Ordering.{is_eq}
-use Rattle.med_value.specs.Datum.{Datum, NoValue, Whole, Chars, Tuple, cell}
-use Rattle.med_value.specs.Order.{datum_cmp}
+use Rattle.med_value.specs.Prelude.{Datum, NoValue, Whole, Chars, Tuple, cell, datum_cmp}
 use Rattle.med_value.specs.declared.order.Comparison.TheVariants.{Equal, AtMost, AtLeast}
 use Rattle.tri_expr.specs.declared.expr.Expr.{Expr}
 use Rattle.tri_expr.specs.Outcome.{Outcome, Is, compared, computed, negated, opposite as turned_over, turned, settled, tested, strict, truth, over, value_of}

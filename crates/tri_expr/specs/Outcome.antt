@@ -3,8 +3,7 @@
 use Rattle.std.specs.Prelude.{◌≡◌, ℕ, ℤ, pos, negsuc, ◌+ℤ◌, ◌-ℤ◌, ◌*ℤ◌, neg_ℤ, int_div, int_rem, ◌^◌, nat_lt, Bool, true, false, not, ◌==◌, if◌then◌else◌, List, [], ◌∷◌, map, Option, Some, None, Result, Ok, Err}
 use Rattle.std.specs.List.{list_any, list_all}
 use Rattle.med_value.specs.declared.value.Value.{Value}
-use Rattle.med_value.specs.Datum.{Datum, NoValue, Whole, Chars, Logic, datum, is_text}
-use Rattle.med_value.specs.Order.{datum_cmp, holds}
+use Rattle.med_value.specs.Prelude.{Datum, NoValue, Whole, Chars, Logic, datum, is_text, datum_cmp, holds}
 use Rattle.med_value.specs.declared.order.Comparison.{Comparison}
 use Rattle.med_value.specs.declared.operators.Operation.{Operation}
 use Rattle.med_value.specs.declared.operators.Operation.TheVariants.{Add, Subtract, Multiply, Divide, Remainder}

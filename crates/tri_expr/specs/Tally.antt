@@ -1,7 +1,6 @@
 -- What an accumulator holds after a list of values.
 use Rattle.std.specs.Prelude.{◌≡◌, ◌==◌, ℕ, ℤ, pos, negsuc, ◌+◌, ◌+ℤ◌, if◌then◌else◌, List, length, filter}
-use Rattle.med_value.specs.Datum.{Datum, NoValue, Whole}
-use Rattle.med_value.specs.Order.{is_missing}
+use Rattle.med_value.specs.Prelude.{Datum, NoValue, Whole, is_missing}
 use Rattle.tri_expr.specs.Lists.{gather}
 use Rattle.tri_expr.specs.declared.expr.SetFunction.{SetFunction}
 use Rattle.tri_expr.specs.declared.expr.SetFunction.TheVariants.{Count, Sum, Min, Max}

@@ -1,8 +1,7 @@
 //! Values that are only looked at: a text stays where it is.
 
 ghost use Rattle.std.specs.Prelude.{◌≡◌, true, IfOk, IsErr};
-ghost use Rattle.med_value.specs.Datum.{datum, is_text};
-ghost use Rattle.med_value.specs.Order.{datum_cmp, is_missing, type_of};
+ghost use Rattle.med_value.specs.Prelude.{datum, is_text, datum_cmp, is_missing, type_of};
 ghost use Rattle.tri_expr.specs.View.{seen};
 
 use med_value::{NoMemory, Value};

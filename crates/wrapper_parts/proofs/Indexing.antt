@@ -7,8 +7,7 @@ use Rattle.std.specs.Str.{bytes_eq}
 use Rattle.std.specs.HashMap as hash
 use Rattle.std.proofs.lemmas.List.{length-set, get_or-set_same, get_or-set_other}
 use Rattle.std.proofs.lemmas.Map.Text.{is_eq-slice_cmp}
-use Rattle.med_value.specs.Datum.{Datum, NoValue, Whole, Chars, Logic, cell}
-use Rattle.med_value.specs.Order.{datum_cmp}
+use Rattle.med_value.specs.Prelude.{Datum, NoValue, Whole, Chars, Logic, cell, datum_cmp}
 use Rattle.med_value.proofs.OrderLemmas.{datum_cmp_equal}
 use Rattle.wrapper_parts.specs.declared.index.Firsts.{Firsts}
 use Rattle.wrapper_parts.specs.declared.index.PlaceIndex.{PlaceIndex}

@@ -5,6 +5,7 @@ use Rattle.std.proofs.lemmas.List.{length-map, map-append, take_more}
 use Rattle.std.specs.declared.cmp.Ordering.{Ordering}
 use Rattle.std.specs.declared.cmp.Ordering.TheVariants.{Less, Equal, Greater}
 use Rattle.std.specs.Ordering.{is_ge, is_le, is_lt, is_gt, is_eq, int_cmp}
+use Rattle.std.proofs.lemmas.Bool.{and_parts}
 use Rattle.med_value.specs.Datum.{Datum, Whole, Tuple, cell}
 use Rattle.fdw_api.specs.Scan.{RestrictionForm, restriction_form, checks, meets, meets_exact}
 use Rattle.fdw_api.specs.declared.scan.Restriction.{Restriction}
@@ -66,14 +67,10 @@ one_more (g ∷ fs) (Exact ∷ gs) f a len all one = exact (is_key_test g) all (
 and_true : (b : Bool) → b ≡ true → (b && true) ≡ true
 and_true b e = rw e refl
 
-apart : (a b : Bool) → (a && b) ≡ true → (a ≡ true) × (b ≡ true)
-apart true b e = (refl, e)
-apart false b e = absurd cc
-
 -- the first restriction, and the others
 pub keys_split : (params : Tuple) (f : RestrictionForm) (fs : List RestrictionForm) (g : Agree) (gs : List Agree) → only_keys params (f ∷ fs) (g ∷ gs) ≡ true
     → (only_keys params (f ∷ []) (g ∷ []) ≡ true) × (only_keys params fs gs ≡ true)
-keys_split params f fs Exact gs e = let w = apart (asks_key params f) (only_keys params fs gs) e in (and_true (asks_key params f) w.0, w.1)
+keys_split params f fs Exact gs e = let w = and_parts (asks_key params f) (only_keys params fs gs) e in (and_true (asks_key params f) w.0, w.1)
 keys_split params f fs Ignored gs e = (refl, e)
 keys_split params f fs Hint gs e = (refl, e)
 
@@ -101,3 +98,16 @@ as_many xs i le = length-map (take i xs) restriction_form ∙ (let n = length-ta
 pub alone : (b : Bool) → b ≡ (b && true)
 alone true = refl
 alone false = refl
+
+pub both_true : (a b : Bool) → a ≡ true → (b && true) ≡ true → (a && b) ≡ true
+both_true true b ea eb = alone b ∙ eb
+both_true false b ea eb = absurd cc
+
+-- where all Exact restrictions are true, the first is, if it is one, and so are the others
+pub exact_split : (params cells : Tuple) (f : RestrictionForm) (fs : List RestrictionForm) (g : Agree) (gs : List Agree)
+    → meets_exact (f ∷ fs) (g ∷ gs) params cells ≡ true
+    → (meets_exact (f ∷ []) (g ∷ []) params cells ≡ true) × (meets_exact fs gs params cells ≡ true)
+exact_split params cells f fs Exact gs e =
+    let w = and_parts (meets params cells f) (meets_exact fs gs params cells) e in (and_true (meets params cells f) w.0, w.1)
+exact_split params cells f fs Ignored gs e = (refl, e)
+exact_split params cells f fs Hint gs e = (refl, e)

@@ -6,8 +6,7 @@ use Rattle.std.proofs.lemmas.List.Sorted.{IsPermutation-filter_both}
 use Rattle.std.proofs.lemmas.List.Elements.{filter_passes, All-weaker}
 use Rattle.med_value.specs.Datum.{Datum, Tuple, cell}
 use Rattle.med_value.specs.declared.order.Comparison.TheVariants as comparisons
-use Rattle.fdw_api.specs.Scan.{Spec, RestrictionForm, TestForm, Compares, Missing, Present, Given, Slot, TableRow, IsComing, meets, meets_all, meets_exact, checks, given_row}
-use Rattle.fdw_api.specs.Wishes.{is_unpromised}
+use Rattle.fdw_api.specs.Prelude.{Spec, RestrictionForm, TestForm, Compares, Missing, Present, Given, Slot, TableRow, IsComing, meets, meets_all, meets_exact, checks, given_row, is_unpromised}
 use Rattle.fdw_api.proofs.Unpromised.{any_order, all_first, promises_none}
 use Rattle.fdw_api.specs.declared.scan.Agree.{Agree}
 use Rattle.fdw_api.specs.declared.scan.Agree.TheVariants.{Ignored, Hint, Exact}

@@ -3,8 +3,7 @@ use Rattle.std.proofs.Common.{◌≡◌, ℕ, zero, suc, ◌+◌, ◌<◌, Bool,
 use Rattle.std.specs.List.{range_with_len}
 use Rattle.std.proofs.lemmas.List.{map-append, append_assoc}
 use Rattle.med_value.specs.Datum.{Tuple}
-use Rattle.fdw_api.specs.Kinds.{Held, Change, Inserts, Updates, Deletes}
-use Rattle.fdw_api.specs.Writes.{row_after}
+use Rattle.fdw_api.specs.Prelude.{Held, Change, Inserts, Updates, Deletes, row_after}
 use Rattle.wrapper_parts.specs.declared.fates.Fate.{Fate}
 use Rattle.wrapper_parts.specs.declared.fates.Fate.TheVariants.{Change as ChangeTo, Gone}
 use Rattle.wrapper_parts.specs.Weaving.{outcome, left_by, left_of, rows_left}

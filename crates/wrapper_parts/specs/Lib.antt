@@ -4,3 +4,4 @@ pub mod Places
 pub mod Indexes
 pub mod Scans
 pub mod Ranges
+pub mod Rising

@@ -1,7 +1,6 @@
 -- The places of the cells that are equal to a value.
 use Rattle.std.specs.Prelude.{◌≡◌, ◌+◌, ◌<◌, ℕ, Bool, true, if◌then◌else◌, List, [], ◌∷◌, length}
-use Rattle.med_value.specs.Datum.{Datum, cell}
-use Rattle.med_value.specs.Order.{compares_true}
+use Rattle.med_value.specs.Prelude.{Datum, cell, compares_true}
 use Rattle.med_value.specs.declared.order.Comparison.TheVariants as comparisons
 
 -- a cell is equal to a value, where `cell = value` is true (SQL:2016, <comparison predicate>): it is unknown where either is NULL, so NULL

@@ -1,8 +1,7 @@
 -- A write that is under way, as the interface of wrappers shows it.
 use Rattle.std.specs.Prelude.{true, [], ◌∷◌, ◌++◌, map}
 use Rattle.med_value.specs.Datum.{tuple}
-use Rattle.fdw_api.specs.Kinds.{Change, Inserts, Updates, Deletes}
-use Rattle.fdw_api.specs.State.{Staging}
+use Rattle.fdw_api.specs.Prelude.{Change, Inserts, Updates, Deletes, Staging}
 use Rattle.wrapper_parts.specs.declared.changes.RowChange.{RowChange}
 use Rattle.wrapper_parts.specs.declared.changes.RowChange.TheVariants.{Insert, Update, Delete}
 use Rattle.wrapper_parts.specs.declared.changes.StagedWrite.{StagedWrite}

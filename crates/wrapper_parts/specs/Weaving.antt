@@ -3,8 +3,7 @@
 use Rattle.std.specs.Prelude.{ℕ, List, [], ◌∷◌, length, map, flat_map, zip}
 use Rattle.std.specs.List.{range_with_len}
 use Rattle.med_value.specs.Datum.{Tuple}
-use Rattle.fdw_api.specs.Kinds.{Held, Change}
-use Rattle.fdw_api.specs.Writes.{row_after}
+use Rattle.fdw_api.specs.Prelude.{Held, Change, row_after}
 use Rattle.wrapper_parts.specs.declared.fates.Fate.{Fate}
 use Rattle.wrapper_parts.specs.declared.fates.Fate.TheVariants.{Keep, Change as ChangeTo, Gone}
 

@@ -1,8 +1,7 @@
 //! Laws of scans that look for an equal parameter.
 ghost use Rattle.std.specs.Prelude.{◌≡◌, List, Contains, map, true, Some};
 ghost use Rattle.med_value.specs.Datum.{Tuple, cell};
-ghost use Rattle.fdw_api.specs.Scan.{TableRow, Spec, IsComing, given_row};
-ghost use Rattle.fdw_api.specs.Wishes.{is_unpromised};
+ghost use Rattle.fdw_api.specs.Prelude.{TableRow, Spec, IsComing, given_row, is_unpromised};
 ghost use Rattle.wrapper_parts.specs.Places.{places};
 ghost use Rattle.wrapper_parts.specs.Scans.{SoughtForm, seeks, column_cells, taken_at, rows_taken, sought};
 

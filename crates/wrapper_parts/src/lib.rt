@@ -7,6 +7,7 @@ pub mod fates;
 pub mod index;
 pub mod law;
 pub mod ranges;
+pub mod rising;
 pub mod sought;
 pub mod tests_of_keys;
 
@@ -14,5 +15,6 @@ pub use changes::{RowChange, StagedWrite, add_change};
 pub use fates::{Fate, keep_all, set_fate};
 pub use index::PlaceIndex;
 pub use ranges::KeyRange;
+pub use rising::range_around;
 pub use sought::{Sought, sought_in, takes, value_at};
 pub use tests_of_keys::{answers_for, range_of};

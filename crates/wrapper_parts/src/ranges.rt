@@ -2,8 +2,7 @@
 ghost use Rattle.std.specs.Prelude.{◌≡◌, ◌&&◌, ℤ, true, false, FitsSigned};
 ghost use Rattle.std.specs.Int.{w64};
 ghost use Rattle.std.specs.Ordering.{is_ge, is_le, is_lt, is_gt, is_eq, int_cmp};
-ghost use Rattle.med_value.specs.Datum.{Whole, datum};
-ghost use Rattle.med_value.specs.Order.{compares_true};
+ghost use Rattle.med_value.specs.Prelude.{Whole, datum, compares_true};
 ghost use Rattle.wrapper_parts.specs.Ranges.{has_key, is_key_value, is_apart};
 
 use med_value::{Comparison, Value};

@@ -1,8 +1,7 @@
 //! Which restrictions of a scan a range of keys answers, and the range that they ask for.
 ghost use Rattle.std.specs.Prelude.{◌≡◌, ◌&&◌, [], ◌∷◌, ℤ, true, false, map, length, FitsSigned, IfOk};
 ghost use Rattle.std.specs.Int.{w64};
-ghost use Rattle.med_value.specs.Datum.{Tuple, Whole, datum, cell};
-ghost use Rattle.med_value.specs.Order.{compares_true};
+ghost use Rattle.med_value.specs.Prelude.{Tuple, Whole, datum, cell, compares_true};
 ghost use Rattle.fdw_api.specs.Scan.{restriction_form, operand_form, test_form, checks, meets, meets_exact};
 ghost use Rattle.wrapper_parts.specs.Ranges.{has_key, is_apart, is_key_value, is_key_other, is_range_check, is_key_test, answer_of, is_typed_check, asks_key, only_key_tests, only_keys};
 
@@ -11,7 +10,7 @@ use fdw_api::scan::{Agree, Operand, Restriction, Test};
 use med_value::{Comparison, NoMemory, Value};
 use std::alloc::Global;
 
-fn is_apart(comparison: Comparison) -> bool
+pub(crate) fn is_apart(comparison: Comparison) -> bool
     ensures { result ≡ is_apart comparison }
 {
     matches!(comparison, Comparison::Apart)
@@ -97,7 +96,7 @@ fn tested(range: KeyRange, test: &Test, params: &[Value]) -> KeyRange
     }
 }
 
-fn narrowed(range: KeyRange, restriction: &Restriction, params: &[Value]) -> KeyRange
+pub(crate) fn narrowed(range: KeyRange, restriction: &Restriction, params: &[Value]) -> KeyRange
     requires { asks_key (map datum params.now) (restriction_form restriction.now) ≡ true }
     ensures { (k : ℤ) (rest : Tuple) → FitsSigned w64 k
         → has_key result k ≡ (has_key range k && meets (map datum params.now) (Whole k ∷ rest) (restriction_form restriction.now)) }

@@ -4,13 +4,10 @@ use Rattle.std.specs.Ordering.{nat_cmp}
 use Rattle.std.specs.FinMap as finmap
 use Rattle.std.specs.FinMap.{gets}
 use Rattle.std.proofs.lemmas.Bool.Decides.{eqb_tells}
+use Rattle.std.proofs.lemmas.Option.{same_Some}
 use Rattle.med_value.specs.Datum.{Tuple}
 use Rattle.med_value.specs.declared.value.ColType.{ColType}
-use Rattle.fdw_api.specs.Scan.{Spec, spec_of, restriction_form, params_fit}
-use Rattle.fdw_api.specs.Kinds.{Column, OptionForm, Change, Inserts}
-use Rattle.fdw_api.specs.State.{BoxTable, Scan, Staging, BoxState, IsIdle, table_of, scan_of, set_at}
-use Rattle.fdw_api.specs.Calls.{CanBind, Binds, Allows, CanBegin, CanUnbind, Unbinds, Begins, IsOpen, Iterates, Breaks, CanRescan, Rescans, Ends, Refuses}
-use Rattle.fdw_api.specs.Writes.{CanModify, Opens, CanChange, Stages, CanClose, Closes, row_of_change_fits}
+use Rattle.fdw_api.specs.Prelude.{Spec, spec_of, restriction_form, params_fit, Column, OptionForm, Change, Inserts, BoxTable, Scan, Staging, BoxState, IsIdle, table_of, scan_of, set_at, CanBind, Binds, Allows, CanBegin, CanUnbind, Unbinds, Begins, IsOpen, Iterates, Breaks, CanRescan, Rescans, Ends, Refuses, CanModify, Opens, CanChange, Stages, CanClose, Closes, row_of_change_fits}
 use Rattle.fdw_api.specs.declared.scan.ScanSpec.{ScanSpec}
 use Rattle.fdw_api.specs.declared.interface.Fault.{Fault}
 use Rattle.fdw_api.specs.declared.interface.SourceRow.{SourceRow}
@@ -26,9 +23,6 @@ put_other m k q v ne = grind (gets, rules)
 
 taken_other : {X : Type 0} (m : finmap.FinMap nat_cmp X) (k q : ℕ) → q ≢ k → finmap.get (finmap.remove m k) q ≡ finmap.get m q
 taken_other m k q ne = grind (gets, rules)
-
-some_inj : {A : Type 0} (a b : A) → Some a ≡ Some b → a ≡ b
-some_inj a b q = cc
 
 not_none : {X : Type 0} (o : Option X) (x : X) → o ≡ None → o ≡ Some x → ⊥
 not_none o x e f = absurd cc
@@ -98,7 +92,7 @@ live_stays old new n same live = subst IsSome (sym same) live
 pub given_is_open : (old new : BoxState) (n : ℕ) (row : Option SourceRow) → Iterates old n row new → IsOpen old n → IsOpen new n
 given_is_open old new n None g is_open = open_stays old new n (ap (λ z. finmap.get z.live n) g.ledger) is_open
 given_is_open old new n (Some row) g is_open =
-    (record g.scan { left = g.left }, ap (λ z. finmap.get z.live n) g.ledger ∙ put_same old.ledger.live n _, ap (λ (z : Scan). z.broken) (some_inj g.scan is_open.0 (sym g.at ∙ is_open.1)) ∙ is_open.2)
+    (record g.scan { left = g.left }, ap (λ z. finmap.get z.live n) g.ledger ∙ put_same old.ledger.live n _, ap (λ (z : Scan). z.broken) (same_Some g.scan is_open.0 (sym g.at ∙ is_open.1)) ∙ is_open.2)
 
 pub given_keeps : (old new : BoxState) (n q : ℕ) (row : Option SourceRow) → Iterates old n row new → q ≢ n → scan_of new q ≡ scan_of old q
 given_keeps old new n q None g ne = ap (λ z. finmap.get z.live q) g.ledger
@@ -125,7 +119,7 @@ given_can_rescan old new n None params g c = record {
   typed = c.typed;
 }
 given_can_rescan old new n (Some row) params g c =
-    let same : g.scan ≡ c.scan = some_inj g.scan c.scan (sym g.at ∙ c.at) in
+    let same : g.scan ≡ c.scan = same_Some g.scan c.scan (sym g.at ∙ c.at) in
     record {
       scan = record c.scan { left = g.left };
       at = ap (λ z. finmap.get z.live n) g.ledger ∙ put_same old.ledger.live n _ ∙ ap (λ (z : Scan). Some (record z { left = g.left })) same;
@@ -180,7 +174,7 @@ pub bound_can_modify : (old new : BoxState) (remote : List ℕ) (columns : List 
 bound_can_modify old new remote columns settings t idle b = let c = bound_can_unbind old new remote columns settings t idle b in record { is_bound = c.is_bound; no_scan = c.no_scan; not_staged = c.not_staged }
 
 pub bound_kinds : (old new : BoxState) (remote : List ℕ) (columns : List Column) (settings : List OptionForm) (kinds : List ColType) (t : ℕ) (b : Binds old remote columns settings t new) → map (λ c. c.kind) columns ≡ kinds → (bound : BoxTable) → table_of new t ≡ Some bound → bound.kinds ≡ kinds
-bound_kinds old new remote columns settings kinds t b e bound is = ap (λ (z : BoxTable). z.kinds) (some_inj bound b.bound (sym is ∙ bound_is_table old new remote columns settings t b)) ∙ b.kinds_are ∙ e
+bound_kinds old new remote columns settings kinds t b e bound is = ap (λ (z : BoxTable). z.kinds) (same_Some bound b.bound (sym is ∙ bound_is_table old new remote columns settings t b)) ∙ b.kinds_are ∙ e
 
 -- a row may be inserted where it is of the columns' types
 pub opened_can_insert : (old s : BoxState) (t : ℕ) (row : Tuple) (kinds : List ColType) → CanModify old t → ((bound : BoxTable) → table_of old t ≡ Some bound → bound.kinds ≡ kinds) → row_of_change_fits kinds (Inserts row) ≡ true → Opens old t s → CanChange s (Inserts row)
@@ -200,7 +194,7 @@ opened_can_insert old s t row kinds can typed fits o = at_table (table_of old t)
     }
 
 staged_same : (old s u : BoxState) (t : ℕ) (change : Change) (o : Opens old t s) (g : Stages s change u) → g.staging ≡ record { table = t; changes = []; broken = false }
-staged_same old s u t change o g = some_inj _ _ (sym g.is_staged ∙ ap (λ z. z.staged) o.ledger)
+staged_same old s u t change o g = same_Some _ _ (sym g.is_staged ∙ ap (λ z. z.staged) o.ledger)
 
 pub staged_can_close : (old s u : BoxState) (t : ℕ) (change : Change) → CanModify old t → Opens old t s → Stages s change u → CanClose u true
 staged_can_close old s u t change can o g =

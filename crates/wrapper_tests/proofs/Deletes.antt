@@ -7,13 +7,9 @@ use Rattle.std.specs.List.{list_any}
 use Rattle.std.proofs.lemmas.Bool.Decides.{eqb_tells}
 use Rattle.std.proofs.lemmas.List.Sorted.{list_any-IsPermutation}
 use Rattle.med_value.specs.Datum.{Tuple}
-use Rattle.fdw_api.specs.Scan.{Spec, GivenRow, TableRow, IsComing, given_row, restriction_form, params_fit}
+use Rattle.fdw_api.specs.Prelude.{Spec, GivenRow, TableRow, IsComing, given_row, restriction_form, params_fit, Deletes, BoxTable, Scan, BoxState, Nature, is_honest, table_of, scan_of, rows_of, Begins, IsOpen, Iterates, Breaks, Ends, CanRescan, CanModify, Opens, CanChange, has_id}
 use Rattle.fdw_api.specs.declared.scan.Restriction.{Restriction}
 use Rattle.med_value.specs.declared.value.ColType.{ColType}
-use Rattle.fdw_api.specs.Kinds.{Deletes}
-use Rattle.fdw_api.specs.State.{BoxTable, Scan, BoxState, Nature, is_honest, table_of, scan_of, rows_of}
-use Rattle.fdw_api.specs.Calls.{Begins, IsOpen, Iterates, Breaks, Ends, CanRescan}
-use Rattle.fdw_api.specs.Writes.{CanModify, Opens, CanChange, has_id}
 use Rattle.fdw_api.specs.declared.interface.Fault.{Fault}
 use Rattle.fdw_api.specs.declared.interface.SourceRow.{SourceRow}
 use Rattle.fdw_api.proofs.Unpromised.{all_first}

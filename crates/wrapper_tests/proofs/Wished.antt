@@ -1,10 +1,7 @@
 -- A scan with a wish may begin by the wrapper's own answer, and a lifted wrapper is idle where its inner one is.
 use Rattle.std.proofs.Common.{◌≡◌, ℕ, true, List, [], map}
 use Rattle.med_value.specs.declared.value.ColType.{ColType}
-use Rattle.fdw_api.specs.Scan.{restriction_form, params_fit}
-use Rattle.fdw_api.specs.State.{BoxState, IsIdle}
-use Rattle.fdw_api.specs.Lifting.{lifted}
-use Rattle.fdw_api.specs.Wishes.{AllowsPromise, CanBegin2, wish_form, spec2_of, is_fair}
+use Rattle.fdw_api.specs.Prelude.{restriction_form, params_fit, BoxState, IsIdle, lifted, AllowsPromise, CanBegin2, wish_form, spec2_of, is_fair}
 use Rattle.fdw_api.specs.declared.wishes.ScanSpec2.{ScanSpec2}
 
 -- one whose restrictions name no parameter

@@ -1,8 +1,6 @@
 //! Wrappers round wrappers, and what the calls of a row answer on them.
 ghost use Rattle.std.specs.Prelude.{◌≡◌, [], List, IsSome};
-ghost use Rattle.fdw_api.specs.Kinds.{Column};
-ghost use Rattle.fdw_api.specs.State.{IsIdle, table_of};
-ghost use Rattle.fdw_api.specs.Lifting.{lifted};
+ghost use Rattle.fdw_api.specs.Prelude.{Column, IsIdle, table_of, lifted};
 ghost use Rattle.source_kinds.specs.Either.{box_of_either};
 ghost use Rattle.probe_wrapper.specs.Counting.{counted};
 ghost use Rattle.probe_wrapper.specs.Shy.{shied, asked_of};

@@ -2,9 +2,7 @@
 ghost use Rattle.std.specs.Prelude.{◌≡◌, ◌∷◌, [], List, map, Some, IfOk, OnOk, IsSome, IsTrue};
 ghost use Rattle.med_value.specs.Datum.{tuple, Whole};
 ghost use Rattle.med_value.specs.declared.value.ColType.TheVariants.{Int};
-ghost use Rattle.fdw_api.specs.Kinds.{Column, column_of};
-ghost use Rattle.fdw_api.specs.State.{BoxTable, IsIdle, table_of};
-ghost use Rattle.fdw_api.specs.Writes.{CanModify};
+ghost use Rattle.fdw_api.specs.Prelude.{Column, column_of, BoxTable, IsIdle, table_of, CanModify};
 ghost use Rattle.list_wrapper.specs.Lists.{listed, names_differ, rows_fit};
 ghost use Rattle.list_wrapper.specs.ListBoxes.{box_of};
 

@@ -2,8 +2,7 @@
 ghost use Rattle.std.specs.Prelude.{◌≡◌, ◌∷◌, [], Some, IsSome};
 ghost use Rattle.med_value.specs.Datum.{NoValue};
 ghost use Rattle.med_value.specs.declared.value.ColType.TheVariants.{Int};
-ghost use Rattle.fdw_api.specs.State.{BoxTable, table_of, scan_of};
-ghost use Rattle.fdw_api.specs.Calls.{CanRescan};
+ghost use Rattle.fdw_api.specs.Prelude.{BoxTable, table_of, scan_of, CanRescan};
 
 use crate::reads::take_row;
 use fdw_api::interface::{Fault, Ticket, Wrapper};

@@ -1,8 +1,7 @@
 //! Scans of the orders, and the text of what they give: of each row its fields, of an end the word `end`, and a space after each.
 ghost use Rattle.std.specs.Prelude.{◌≡◌, ◌≢◌, [], ℕ, OnOk, IsSome};
 ghost use Rattle.med_value.specs.Datum.{Tuple};
-ghost use Rattle.fdw_api.specs.State.{table_of, scan_of};
-ghost use Rattle.fdw_api.specs.Calls.{IsOpen, CanRescan};
+ghost use Rattle.fdw_api.specs.Prelude.{table_of, scan_of, IsOpen, CanRescan};
 
 use fdw_api::interface::{Counts, Fault, SourceRow, Ticket, Wrapper};
 use fdw_api::scan::{Operand, Restriction, ScanSpec, Test};

@@ -1,7 +1,6 @@
 //! Scans of the orders by version 2 of the interface, with a wish.
 ghost use Rattle.std.specs.Prelude.{◌≡◌, [], List, IsSome};
-ghost use Rattle.fdw_api.specs.Kinds.{Column};
-ghost use Rattle.fdw_api.specs.State.{IsIdle, table_of};
+ghost use Rattle.fdw_api.specs.Prelude.{Column, IsIdle, table_of};
 
 use crate::boxes::{
     in_counting, in_failing, in_first, in_lift, in_second, in_shuffled, in_shy, in_vague,

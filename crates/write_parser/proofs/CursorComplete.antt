@@ -6,13 +6,11 @@ use Rattle.std.proofs.lemmas.Slice.Eq.{bytes_eq-Decides}
 use Rattle.med_lexer.specs.Lexemes.{Shape, word, quoted}
 use Rattle.med_syntax.specs.declared.refusal.Refusal.{Refusal}
 use Rattle.med_syntax.specs.declared.refusal.Refusal.TheVariants.{Syntax}
-use Rattle.med_syntax.specs.ExprReading.{choose}
-use Rattle.med_syntax.specs.Tree.{Name}
+use Rattle.med_syntax.specs.Prelude.{choose, Name, CountTree, some_rows, all_rows, CursorTree, declare, fetch, close}
 use Rattle.med_syntax.specs.Words.{is_reserved}
 use Rattle.ddl_parser.specs.DdlGrammar.{Form, Both, Words, WordsOrNot, NameIs, IsEnd}
 use Rattle.ddl_parser.specs.DdlReading.{seq, expect, words_if, name_of, is_end}
 use Rattle.ddl_parser.proofs.DdlTakes.{Clear, other_word, seq_takes, seq_ends, first_absent, expect_takes, Absent, if_takes, name_takes}
-use Rattle.med_syntax.specs.CursorTree.{CountTree, some_rows, all_rows, CursorTree, declare, fetch, close}
 use Rattle.write_parser.specs.CursorGrammar.{Properties, Declaring, CountIs, FromOrIn, Fetching, Closing}
 use Rattle.write_parser.specs.CursorReading.{held_of, properties_of, declared_of, next_of, word_count_of, count_of, from_of, fetch_of, close_of, plain_of, ended, plain_line}
 use Rattle.write_parser.proofs.CursorSound.{Plain}

@@ -9,31 +9,21 @@ use Rattle.med_syntax.specs.declared.refusal.ReadFault.{ReadFault}
 use Rattle.med_syntax.specs.declared.refusal.ReadFault.TheVariants as faults
 use Rattle.med_syntax.specs.declared.refusal.Refusal.{Refusal}
 use Rattle.med_syntax.specs.declared.refusal.Refusal.TheVariants.{Syntax, TooHigh}
-use Rattle.med_syntax.specs.ExprAnswers.{ReadsAs}
+use Rattle.med_syntax.specs.Prelude.{ReadsAs, AreReadable, deepens, Name, Terminal, word_terminal, StatementTree, select, is_free_keyword, IsWord, AreWords, words_at, SpellsCore, Spells, IsLine, IsStatement, DdlTree, CursorTree, declare, fetch, close, cursor_height, cursor_tree}
+use Rattle.med_syntax.specs.Words.{is_reserved}
 use Rattle.med_syntax.specs.ExprReading.{◌>>=◌}
-use Rattle.med_syntax.specs.ExprTerminals.{AreReadable}
-use Rattle.med_syntax.specs.Shapes.{deepens}
 use Rattle.med_syntax.proofs.ExprSound.{bind_ok, ok_same}
 use Rattle.med_syntax.proofs.ExprWeighing.{deep}
-use Rattle.med_syntax.specs.Tree.{Name}
-use Rattle.med_syntax.specs.Words.{is_reserved}
-use Rattle.med_syntax.specs.Terminal.{Terminal, word_terminal}
 use Rattle.med_syntax.specs.Terminal as t
-use Rattle.med_syntax.specs.QueryTree.{StatementTree, select}
 use Rattle.med_syntax.specs.declared.query_symbols.Place.TheVariants.{Before}
-use Rattle.med_syntax.specs.QueryTerminals.{is_free_keyword, IsWord, AreWords, words_at}
-use Rattle.med_syntax.specs.QueryGrammar.{SpellsCore, Spells, IsLine, IsStatement}
 use Rattle.med_syntax.proofs.QueryTerminals.{to_terminals, of_terminals}
 use Rattle.query_reader.specs.QueryReading.{bounded_line}
 use Rattle.query_reader.proofs.QueryComplete as query_line
-use Rattle.med_syntax.specs.DdlTree.{DdlTree}
 use Rattle.ddl_parser.specs.DdlGrammar.{Both, IsEnd, IsDdl}
 use Rattle.ddl_parser.specs.DdlReading.{seq, behind_word, words_if}
 use Rattle.ddl_parser.proofs.DdlSound.{FoundForm, word_is, err_ok}
 use Rattle.ddl_parser.proofs.DdlComplete as ddl
 use Rattle.med_syntax.specs.declared.cursor.CursorStatement.{CursorStatement}
-use Rattle.med_syntax.specs.CursorTree.{CursorTree, declare, fetch, close, cursor_height}
-use Rattle.med_syntax.specs.CursorView.{cursor_tree}
 use Rattle.write_parser.specs.CursorGrammar.{Declaring, QueryIs, IsCursor}
 use Rattle.write_parser.specs.CursorReading.{held_of, properties_of, declared_of, plain_of, ended, plain_line, query_of, line_behind, line_of}
 use Rattle.write_parser.specs.CursorCauses.{Refuses}

@@ -6,12 +6,11 @@ use Rattle.med_lexer.specs.declared.Mark.TheVariants as marks
 use Rattle.med_lexer.specs.Lexemes.{Shape, word, number, mark}
 use Rattle.med_syntax.specs.declared.refusal.Refusal.{Refusal}
 use Rattle.med_syntax.specs.declared.refusal.Refusal.TheVariants.{Syntax}
-use Rattle.med_syntax.specs.ExprReading.{choose}
+use Rattle.med_syntax.specs.Prelude.{choose, CountTree, some_rows, all_rows, CursorTree, declare, fetch, close}
 use Rattle.med_syntax.proofs.ExprSound.{ok_same}
 use Rattle.ddl_parser.specs.DdlGrammar.{Form, Both, ◌⋯◌, Words, WordsOrNot, IsEnd}
 use Rattle.ddl_parser.specs.DdlReading.{behind_word, expect, words_if, name_of, is_end}
 use Rattle.ddl_parser.proofs.DdlSound.{FoundForm, Sound, word_is, found_both, found_as, err_ok, seq_sound, word_found, nothing_found, expect_sound, if_sound, or_not, name_sound}
-use Rattle.med_syntax.specs.CursorTree.{CountTree, some_rows, all_rows, CursorTree, declare, fetch, close}
 use Rattle.write_parser.specs.CursorGrammar.{Properties, Declaring, CountIs, FromOrIn, Fetching, Closing, IsCursor}
 use Rattle.write_parser.specs.CursorReading.{held_of, properties_of, declared_of, next_of, word_count_of, count_of, from_of, fetch_of, close_of, plain_of, ended, plain_line}
 

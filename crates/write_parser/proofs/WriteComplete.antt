@@ -4,20 +4,15 @@ use Rattle.std.specs.Prelude.{max, Ok, Err, Option, Some, None}
 use Rattle.med_value.specs.declared.order.Comparison.TheVariants.{Equal}
 use Rattle.med_syntax.specs.declared.refusal.Refusal.TheVariants.{TooHigh}
 use Rattle.med_syntax.specs.declared.symbols.Separator.TheVariants.{Comma}
-use Rattle.med_syntax.specs.ExprReading.{◌>>=◌, below}
-use Rattle.med_syntax.specs.ExprSteps.{behind_of}
-use Rattle.med_syntax.specs.Tree.{Name}
-use Rattle.med_syntax.specs.Terminal.{Terminal}
+use Rattle.med_syntax.specs.Prelude.{behind_of, Name, Terminal, ExprTree, height, highest_of, condition_height, keywords, SpellsList, SpellsExpr, IsEnd, GivenTree, values, rows_of, SetTree, UpdateTree, DeleteTree, WriteTree, insert, update, delete, row_height, set_height, update_height, write_height}
+use Rattle.med_syntax.specs.ExprReading.{below}
+use Rattle.med_syntax.specs.ExprReading.{◌>>=◌}
 use Rattle.med_syntax.specs.Terminal as t
-use Rattle.med_syntax.specs.ExprTree.{ExprTree, height}
-use Rattle.med_syntax.specs.QueryTree.{highest_of, condition_height}
-use Rattle.med_syntax.specs.QueryGrammar.{keywords, SpellsList, SpellsExpr, IsEnd}
 use Rattle.query_reader.specs.QueryReading.{Parser, behind_word, behind_words, read_name, list_of, entry_of, is_end}
 use Rattle.query_reader.proofs.PartSound.{flat}
 use Rattle.query_reader.proofs.PartComplete.{held, held_low, held_high, Takes, then_held, Parted, Stops, parted_reach, list_takes, entry_takes, condition_takes}
 use Rattle.med_syntax.proofs.ExprChains.{low_or_high, reach}
 use Rattle.med_syntax.proofs.ExprComplete.{completes}
-use Rattle.med_syntax.specs.WriteTree.{GivenTree, values, rows_of, SetTree, UpdateTree, DeleteTree, WriteTree, insert, update, delete, row_height, set_height, update_height, write_height}
 use Rattle.write_parser.specs.WriteGrammar.{SpellsTuple, SpellsName, SpellsColumns, SpellsSet, SpellsWhere}
 use Rattle.write_parser.specs.WriteReading.{behind_left, behind_right, inside, columns_of, target_of, row_of, insert_of, set_of, where_of, sets_of, update_of, delete_of, plain_of, plain_line}
 use Rattle.write_parser.proofs.WriteSound.{SpellsNamed, SpellsGiven, SpellsPlain, IsPlain}

@@ -5,37 +5,25 @@ use Rattle.std.proofs.lemmas.List.Recursion.{is_count_by}
 use Rattle.std.proofs.lemmas.List.{take_rest, drop-map, drop_at, length-map}
 use Rattle.med_lexer.specs.declared.Token.{Token}
 use Rattle.med_lexer.specs.View.{shape_of}
-use Rattle.med_syntax.specs.View.{shapes_of}
-use Rattle.med_syntax.specs.SymbolView.{terminal_of_symbol, terminals_of}
+use Rattle.med_syntax.specs.Prelude.{shapes_of, terminal_of_symbol, terminals_of, ReadsAs, terminals_at, AreReadable, deepens, Name, Terminal, SelectTree, StatementTree, select, statement_height, select_tree, statement_tree, words_at, IsLine, IsStatement, rows_of, WriteTree, insert, given_height, write_height, given_tree, write_tree}
 use Rattle.med_syntax.specs.declared.symbols.Symbol.{Symbol}
 use Rattle.med_lexer.specs.Lexemes.{Shape}
 use Rattle.med_syntax.specs.declared.refusal.ReadFault.{ReadFault}
 use Rattle.med_syntax.specs.declared.refusal.ReadFault.TheVariants as faults
 use Rattle.med_syntax.specs.declared.refusal.Refusal.{Refusal}
 use Rattle.med_syntax.specs.declared.refusal.Refusal.TheVariants.{Syntax, TooHigh}
-use Rattle.med_syntax.specs.ExprAnswers.{ReadsAs}
-use Rattle.med_syntax.specs.ExprTerminals.{terminals_at, AreReadable}
-use Rattle.med_syntax.specs.Shapes.{deepens}
 use Rattle.med_syntax.proofs.ExprTerminals.{terminals_are}
 use Rattle.med_syntax.proofs.ExprWeighing.{weight_is, deep}
 use Rattle.med_syntax.proofs.ExprSound.{ok_same}
-use Rattle.med_syntax.specs.Tree.{Name}
-use Rattle.med_syntax.specs.Terminal.{Terminal}
 use Rattle.med_syntax.specs.declared.statement.Statement.{Statement}
 use Rattle.med_syntax.specs.declared.statement.Statement.TheVariants as s
-use Rattle.med_syntax.specs.QueryTree.{SelectTree, StatementTree, select, statement_height}
-use Rattle.med_syntax.specs.QueryView.{select_tree, statement_tree}
 use Rattle.med_syntax.specs.declared.query_symbols.Place.TheVariants.{Before}
-use Rattle.med_syntax.specs.QueryTerminals.{words_at}
-use Rattle.med_syntax.specs.QueryGrammar.{IsLine, IsStatement}
 use Rattle.med_syntax.proofs.QueryTerminals.{to_terminals, of_terminals}
 use Rattle.query_reader.specs.QueryReading.{bounded_line}
 use Rattle.query_reader.proofs.PartSound.{err_ok}
 use Rattle.query_reader.proofs.QueryComplete as query_line
 use Rattle.med_syntax.specs.declared.write.Given.TheVariants as g
 use Rattle.med_syntax.specs.declared.write.WriteStatement.{WriteStatement}
-use Rattle.med_syntax.specs.WriteTree.{rows_of, WriteTree, insert, given_height, write_height}
-use Rattle.med_syntax.specs.WriteView.{given_tree, write_tree}
 use Rattle.write_parser.specs.WriteGrammar.{IsInsert, IsWrite}
 use Rattle.write_parser.specs.WriteReading.{query_at, bounded_plain}
 use Rattle.write_parser.specs.WriteCauses.{Refuses}

@@ -4,17 +4,13 @@ use Rattle.std.specs.Prelude.{Result, Ok, Err, Option, Some, None}
 use Rattle.med_value.specs.declared.order.Comparison.TheVariants.{Equal}
 use Rattle.med_syntax.specs.declared.refusal.Refusal.{Refusal}
 use Rattle.med_syntax.specs.declared.refusal.Refusal.TheVariants.{Syntax}
-use Rattle.med_syntax.specs.ExprReading.{◌>>=◌, choose, below}
-use Rattle.med_syntax.specs.Tree.{Name}
-use Rattle.med_syntax.specs.Terminal.{Terminal}
+use Rattle.med_syntax.specs.Prelude.{choose, Name, Terminal, ExprTree, height, EntryTree, highest_of, condition_height, keywords, SpellsList, SpellsEntry, SpellsExpr, IsEnd, GivenTree, values, rows_of, SetTree, WriteTree, insert, update, delete, row_height, set_height, write_height}
+use Rattle.med_syntax.specs.ExprReading.{below}
+use Rattle.med_syntax.specs.ExprReading.{◌>>=◌}
 use Rattle.med_syntax.specs.Terminal as t
-use Rattle.med_syntax.specs.ExprTree.{ExprTree, height}
-use Rattle.med_syntax.specs.QueryTree.{EntryTree, highest_of, condition_height}
-use Rattle.med_syntax.specs.QueryGrammar.{keywords, SpellsList, SpellsEntry, SpellsExpr, IsEnd}
 use Rattle.query_reader.specs.QueryReading.{Parser, behind_word, behind_words, read_name, list_of, entry_of, is_end}
 use Rattle.query_reader.proofs.PartSound.{FoundPart, Sound, found_as, flat, err_ok, none_some, some_is, word_is, words_are, list_sound, entry_sound, expr_sound, condition_sound}
 use Rattle.med_syntax.proofs.ExprSound.{bind_ok, ok_same}
-use Rattle.med_syntax.specs.WriteTree.{GivenTree, values, rows_of, SetTree, WriteTree, insert, update, delete, row_height, set_height, write_height}
 use Rattle.write_parser.specs.WriteGrammar.{SpellsTuple, SpellsName, SpellsColumns, SpellsInsert, SpellsSet, SpellsWhere, SpellsUpdate, SpellsDelete}
 use Rattle.write_parser.specs.WriteReading.{behind_left, behind_right, inside, columns_of, target_of, row_of, insert_of, set_at, set_of, where_of, sets_of, update_of, delete_of, plain_of, plain_line}
 

@@ -4,21 +4,15 @@ use Rattle.std.specs.Prelude.{Result, Ok, Err, Option, Some, None}
 use Rattle.med_lexer.specs.Lexemes.{Shape, word, quoted, literal, number, mark}
 use Rattle.med_syntax.specs.declared.refusal.Refusal.{Refusal}
 use Rattle.med_syntax.specs.declared.refusal.Refusal.TheVariants.{Syntax}
-use Rattle.med_syntax.specs.ExprReading.{◌>>=◌, choose}
-use Rattle.med_syntax.specs.ExprTerminals.{follows, terminal_at, terminals_at}
+use Rattle.med_syntax.specs.Prelude.{choose, follows, terminal_at, terminals_at, Name, Terminal, AreTerminals, SelectTree, select, word_at, words_at, keywords, SpellsOthers, SpellsList, SpellsAlias, SpellsEntry, SpellsExpr, SpellsCore, SpellsSelect, IsEnd, IsLine, IsStatement, GivenTree, values, rows_of, WriteTree, insert, update, delete}
+use Rattle.med_syntax.specs.ExprReading.{◌>>=◌}
 use Rattle.med_syntax.proofs.ExprTerminals.{Good, good, terminals_are, same_terminals}
 use Rattle.med_syntax.proofs.ExprSound.{bind_ok, ok_same}
-use Rattle.med_syntax.specs.Tree.{Name}
-use Rattle.med_syntax.specs.Terminal.{Terminal, AreTerminals}
 use Rattle.med_syntax.specs.Terminal as t
-use Rattle.med_syntax.specs.QueryTree.{SelectTree, select}
 use Rattle.med_syntax.specs.declared.query_symbols.Place.TheVariants as p
-use Rattle.med_syntax.specs.QueryTerminals.{word_at, words_at}
-use Rattle.med_syntax.specs.QueryGrammar.{keywords, SpellsOthers, SpellsList, SpellsAlias, SpellsEntry, SpellsExpr, SpellsCore, SpellsSelect, IsEnd, IsLine, IsStatement}
 use Rattle.med_syntax.proofs.QueryTerminals.{to_terminals}
 use Rattle.query_reader.specs.QueryReading.{behind_word, behind_words}
 use Rattle.query_reader.proofs.PartSound.{FoundPart, flat, err_ok, word_is, words_are}
-use Rattle.med_syntax.specs.WriteTree.{GivenTree, values, rows_of, WriteTree, insert, update, delete}
 use Rattle.write_parser.specs.WriteGrammar.{SpellsTuple, SpellsName, SpellsColumns, SpellsTarget, SpellsSet, SpellsWhere, IsLineOf, IsInsert, IsWrite}
 use Rattle.write_parser.specs.WriteReading.{target_of, insert_of, plain_line, query_at}
 use Rattle.write_parser.proofs.WriteSound.{SpellsNamed, SpellsGiven, SpellsPlain, IsPlain, target_sound}

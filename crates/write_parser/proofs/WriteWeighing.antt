@@ -3,14 +3,10 @@ use Rattle.std.proofs.Common.{◌≡◌, ◌+◌, ◌*◌, ◌≤◌, ◌<◌, �
 use Rattle.std.specs.Prelude.{Ok, Err}
 use Rattle.med_value.specs.declared.order.Comparison.TheVariants.{Equal}
 use Rattle.med_syntax.specs.declared.refusal.Refusal.TheVariants.{Syntax, TooHigh}
-use Rattle.med_syntax.specs.Terminal.{Terminal}
+use Rattle.med_syntax.specs.Prelude.{Terminal, height, weight, keywords, SpellsExpr, GivenTree, values, rows_of, WriteTree, insert, update, delete, row_height, set_height, write_height}
 use Rattle.med_syntax.specs.Terminal as t
-use Rattle.med_syntax.specs.ExprTree.{height}
-use Rattle.med_syntax.specs.ExprWeight.{weight}
-use Rattle.med_syntax.specs.QueryGrammar.{keywords, SpellsExpr}
 use Rattle.med_syntax.proofs.BoundedReading.{ReadsInRoom, tried_sound, tried_out, tried_told}
 use Rattle.med_syntax.proofs.ExprWeighing.{weight_append, weight_more}
-use Rattle.med_syntax.specs.WriteTree.{GivenTree, values, rows_of, WriteTree, insert, update, delete, row_height, set_height, write_height}
 use Rattle.write_parser.specs.WriteGrammar.{SpellsTuple, SpellsSet}
 use Rattle.write_parser.specs.WriteReading.{plain_line, bounded_plain}
 use Rattle.write_parser.proofs.WriteSound.{SpellsGiven, SpellsPlain, IsPlain, line_sound}

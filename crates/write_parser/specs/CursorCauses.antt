@@ -2,12 +2,10 @@
 use Rattle.std.specs.Prelude.{◌<◌, ◌⊎◌, Bool, true, false, ◌==◌, List, count_by}
 use Rattle.med_value.specs.Limits.{height_limit}
 use Rattle.med_lexer.specs.Lexemes.{Shape}
-use Rattle.med_syntax.specs.Shapes.{deepens}
+use Rattle.med_syntax.specs.Prelude.{deepens, count_in_range, statement_in_range, CountTree, some_rows, all_rows, CursorTree, declare, fetch, close, cursor_height}
 use Rattle.med_syntax.specs.declared.refusal.ReadFault.{ReadFault}
 use Rattle.med_syntax.specs.declared.refusal.ReadFault.TheVariants as faults
 use Rattle.med_syntax.specs.declared.refusal.Refusal.TheVariants.{Syntax, TooHigh}
-use Rattle.med_syntax.specs.QueryCauses.{count_in_range, statement_in_range}
-use Rattle.med_syntax.specs.CursorTree.{CountTree, some_rows, all_rows, CursorTree, declare, fetch, close, cursor_height}
 use Rattle.write_parser.specs.CursorGrammar.{IsCursor}
 
 -- ---- each number is at most 2^63 - 1, and directly behind a unary minus at most 2^63

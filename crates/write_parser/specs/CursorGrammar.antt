@@ -7,12 +7,8 @@
 use Rattle.std.specs.Prelude.{◌≡◌, ℕ, ◌⊎◌, List, [], ◌∷◌, codes}
 use Rattle.std.specs.Str.Parse.{digits_value}
 use Rattle.med_lexer.specs.Lexemes.{Shape, number, Lexeme, Lexes}
-use Rattle.med_syntax.specs.Shapes.{shapes}
-use Rattle.med_syntax.specs.Tree.{Name}
-use Rattle.med_syntax.specs.QueryTree.{StatementTree}
-use Rattle.med_syntax.specs.QueryGrammar.{IsStatement}
+use Rattle.med_syntax.specs.Prelude.{shapes, Name, StatementTree, IsStatement, CountTree, some_rows, all_rows, CursorTree, declare, fetch, close}
 use Rattle.ddl_parser.specs.DdlGrammar.{Form, ◌⋯◌, Nothing, Words, WordsOrNot, NameIs, IsEnd}
-use Rattle.med_syntax.specs.CursorTree.{CountTree, some_rows, all_rows, CursorTree, declare, fetch, close}
 
 -- [INSENSITIVE] [NO SCROLL] CURSOR [WITH HOLD] FOR (SQL:2016, <cursor properties>)
 abbrev pub Properties : Form

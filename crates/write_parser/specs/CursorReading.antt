@@ -4,13 +4,11 @@ use Rattle.std.specs.Str.Parse.{digits_value}
 use Rattle.med_lexer.specs.Lexemes.{Shape, number}
 use Rattle.med_syntax.specs.declared.refusal.Refusal.{Refusal}
 use Rattle.med_syntax.specs.declared.refusal.Refusal.TheVariants.{Syntax}
-use Rattle.med_syntax.specs.ExprReading.{◌>>=◌, choose}
-use Rattle.med_syntax.specs.Tree.{Name}
+use Rattle.med_syntax.specs.Prelude.{choose, Name, words_at, CountTree, some_rows, all_rows, CursorTree, declare, fetch, close}
+use Rattle.med_syntax.specs.ExprReading.{◌>>=◌}
 use Rattle.med_syntax.specs.declared.query_symbols.Place.TheVariants.{Before}
-use Rattle.med_syntax.specs.QueryTerminals.{words_at}
 use Rattle.query_reader.specs.QueryReading.{bounded_line}
 use Rattle.ddl_parser.specs.DdlReading.{Parser, seq, behind_word, expect, words_if, name_of, is_end}
-use Rattle.med_syntax.specs.CursorTree.{CountTree, some_rows, all_rows, CursorTree, declare, fetch, close}
 
 -- CURSOR [WITH HOLD] FOR
 unfoldable pub held_of : Parser (Unit {0})

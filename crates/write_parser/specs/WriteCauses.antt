@@ -2,14 +2,10 @@
 use Rattle.std.specs.Prelude.{◌<◌, ◌⊎◌, Bool, ◌&&◌, List, count_by}
 use Rattle.med_value.specs.Limits.{height_limit}
 use Rattle.med_lexer.specs.Lexemes.{Shape}
-use Rattle.med_syntax.specs.ExprTree.{ExprTree}
-use Rattle.med_syntax.specs.Shapes.{deepens}
-use Rattle.med_syntax.specs.ExprGrammar.{in_range}
+use Rattle.med_syntax.specs.Prelude.{ExprTree, deepens, in_range, all_in_range, perhaps_in_range, select_in_range, GivenTree, values, rows_of, SetTree, UpdateTree, DeleteTree, WriteTree, insert, update, delete, write_height}
 use Rattle.med_syntax.specs.declared.refusal.ReadFault.{ReadFault}
 use Rattle.med_syntax.specs.declared.refusal.ReadFault.TheVariants as faults
 use Rattle.med_syntax.specs.declared.refusal.Refusal.TheVariants.{Syntax, TooHigh}
-use Rattle.med_syntax.specs.QueryCauses.{all_in_range, perhaps_in_range, select_in_range}
-use Rattle.med_syntax.specs.WriteTree.{GivenTree, values, rows_of, SetTree, UpdateTree, DeleteTree, WriteTree, insert, update, delete, write_height}
 use Rattle.write_parser.specs.WriteGrammar.{IsWrite}
 
 -- ---- each number is at most 2^63 - 1, and directly behind a unary minus at most 2^63

@@ -9,14 +9,8 @@
 use Rattle.std.specs.Prelude.{◌≡◌, ℕ, List, [], ◌∷◌, ◌++◌, codes, Option, Some, None}
 use Rattle.med_value.specs.declared.order.Comparison.TheVariants.{Equal}
 use Rattle.med_lexer.specs.Lexemes.{Shape, Lexeme, Lexes}
-use Rattle.med_syntax.specs.Tree.{Name}
-use Rattle.med_syntax.specs.Terminal.{Terminal, AreTerminals}
+use Rattle.med_syntax.specs.Prelude.{Name, Terminal, AreTerminals, ExprTree, IsExpr, select, shapes, keywords, SpellsList, SpellsEntry, SpellsPerhaps, SpellsExpr, IsEnd, IsStatement, GivenTree, values, rows_of, SetTree, UpdateTree, DeleteTree, WriteTree, insert, update, delete}
 use Rattle.med_syntax.specs.Terminal as t
-use Rattle.med_syntax.specs.ExprTree.{ExprTree, IsExpr}
-use Rattle.med_syntax.specs.QueryTree.{select}
-use Rattle.med_syntax.specs.Shapes.{shapes}
-use Rattle.med_syntax.specs.QueryGrammar.{keywords, SpellsList, SpellsEntry, SpellsPerhaps, SpellsExpr, IsEnd, IsStatement}
-use Rattle.med_syntax.specs.WriteTree.{GivenTree, values, rows_of, SetTree, UpdateTree, DeleteTree, WriteTree, insert, update, delete}
 
 -- ( x {, x} )
 abbrev pub SpellsTuple : {X : Type 0} → (X → List Terminal → Type 0) → List X → List Terminal → Type 0

@@ -3,14 +3,11 @@ use Rattle.std.specs.Prelude.{ℕ, cond, List, [], ◌∷◌, codes, Result, Ok,
 use Rattle.med_value.specs.declared.order.Comparison.TheVariants.{Equal}
 use Rattle.med_syntax.specs.declared.refusal.Refusal.{Refusal}
 use Rattle.med_syntax.specs.declared.refusal.Refusal.TheVariants.{Syntax}
-use Rattle.med_syntax.specs.ExprReading.{◌>>=◌, choose, below}
-use Rattle.med_syntax.specs.ExprWeight.{bounded}
-use Rattle.med_syntax.specs.Tree.{Name}
-use Rattle.med_syntax.specs.Terminal.{Terminal}
+use Rattle.med_syntax.specs.Prelude.{choose, bounded, Name, Terminal, ExprTree, values, SetTree, WriteTree, insert, update, delete}
+use Rattle.med_syntax.specs.ExprReading.{below}
+use Rattle.med_syntax.specs.ExprReading.{◌>>=◌}
 use Rattle.med_syntax.specs.Terminal as t
-use Rattle.med_syntax.specs.ExprTree.{ExprTree}
 use Rattle.query_reader.specs.QueryReading.{Parser, behind_word, behind_words, read_name, list_of, entry_of, perhaps_of, is_end}
-use Rattle.med_syntax.specs.WriteTree.{values, SetTree, WriteTree, insert, update, delete}
 
 abbrev pub behind_left : List Terminal → Option (List Terminal)
 behind_left (t.LeftParen ∷ ts) = Some ts

@@ -1,12 +1,9 @@
 //! Laws of the statements on cursors. Each is the contract of a function that does nothing.
 
 ghost use Rattle.write_parser.specs.CursorGrammar.{IsCursor};
-ghost use Rattle.med_syntax.specs.CursorTree.{CursorTree};
+ghost use Rattle.med_syntax.specs.Prelude.{CursorTree, DdlTree, StatementTree, IsStatement};
 ghost use Rattle.ddl_parser.specs.DdlGrammar.{IsDdl};
-ghost use Rattle.med_syntax.specs.DdlTree.{DdlTree};
 ghost use Rattle.med_lexer.specs.Lexemes.{Shape};
-ghost use Rattle.med_syntax.specs.QueryTree.{StatementTree};
-ghost use Rattle.med_syntax.specs.QueryGrammar.{IsStatement};
 ghost use Rattle.std.specs.Prelude.{◌≡◌, List};
 
 /// Tokens are at most one statement on cursors.

@@ -1,11 +1,8 @@
 //! Keywords, names and counts at the front of tokens.
 
 ghost use Rattle.write_parser.specs.CursorReading as reading;
-ghost use Rattle.med_syntax.specs.CursorView.{count_tree};
+ghost use Rattle.med_syntax.specs.Prelude.{count_tree, ReadsAs, AreReadable, shapes_of};
 ghost use Rattle.ddl_parser.specs.DdlReading as ddl;
-ghost use Rattle.med_syntax.specs.ExprAnswers.{ReadsAs};
-ghost use Rattle.med_syntax.specs.ExprTerminals.{AreReadable};
-ghost use Rattle.med_syntax.specs.View.{shapes_of};
 ghost use Rattle.std.specs.Prelude.{◌≡◌, ◌∷◌, [], Ok, IfOk, map, option_map};
 ghost use Rattle.std.specs.String.{string_bytes};
 

@@ -1,14 +1,10 @@
 //! Statements that write rows, by recursive descent.
 
-ghost use Rattle.med_syntax.specs.ExprAnswers.{ReadsAs};
-ghost use Rattle.med_syntax.specs.ExprWeight.{again};
-ghost use Rattle.med_syntax.specs.SymbolView.{terminals_of};
-ghost use Rattle.med_syntax.specs.ExprView.{expr_tree};
+ghost use Rattle.med_syntax.specs.Prelude.{ReadsAs, again, terminals_of, expr_tree, names_tree, set_tree, write_tree};
 ghost use Rattle.query_reader.specs.QueryReading.{is_end};
 ghost use Rattle.std.specs.Prelude.{◌≡◌, ◌<◌, map, option_map, Err};
 ghost use Rattle.std.specs.String.{string_bytes};
 ghost use Rattle.write_parser.specs.WriteReading as reading;
-ghost use Rattle.med_syntax.specs.WriteView.{names_tree, set_tree, write_tree};
 
 use crate::write_lists::{columns, row_list, set_list};
 use crate::write_words::{behind_two, behind_word, entry, expr, name};

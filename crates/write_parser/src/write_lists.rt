@@ -1,14 +1,11 @@
 //! Lists with a comma between each two.
 
-ghost use Rattle.med_syntax.specs.ExprAnswers.{ReadsAs};
+ghost use Rattle.med_syntax.specs.Prelude.{ReadsAs, terminals_of, expr_tree, names_tree, row_tree, set_tree};
 ghost use Rattle.med_syntax.specs.ExprReading.{below};
-ghost use Rattle.med_syntax.specs.SymbolView.{terminals_of};
-ghost use Rattle.med_syntax.specs.ExprView.{expr_tree};
 ghost use Rattle.query_reader.specs.QueryReading.{list_of, read_name};
 ghost use Rattle.std.specs.Prelude.{◌≡◌, ◌<◌, map, option_map};
 ghost use Rattle.std.specs.String.{string_bytes};
 ghost use Rattle.write_parser.specs.WriteReading as reading;
-ghost use Rattle.med_syntax.specs.WriteView.{names_tree, row_tree, set_tree};
 
 use crate::write_words::{behind_left, behind_right, expr, name, set_at};
 use med_syntax::refusal::{ReadFault, Refusal};

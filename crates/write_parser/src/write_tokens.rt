@@ -1,13 +1,10 @@
 //! Tokens to statements that write rows.
 
-ghost use Rattle.med_syntax.specs.ExprTerminals.{AreReadable};
-ghost use Rattle.med_syntax.specs.View.{shapes_of};
+ghost use Rattle.med_syntax.specs.Prelude.{AreReadable, shapes_of, write_height, write_tree};
 ghost use Rattle.std.specs.Prelude.{◌≤◌, IfOk, IfErr};
 ghost use Rattle.med_value.specs.Limits.{height_limit};
 ghost use Rattle.write_parser.specs.WriteCauses.{Refuses};
 ghost use Rattle.write_parser.specs.WriteGrammar.{IsWrite};
-ghost use Rattle.med_syntax.specs.WriteTree.{write_height};
-ghost use Rattle.med_syntax.specs.WriteView.{write_tree};
 
 use crate::write_clauses::{bounded, query_at};
 use med_syntax::expr_symbols::symbols_of;

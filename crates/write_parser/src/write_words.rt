@@ -1,10 +1,7 @@
 //! Words, names and tables at the front of symbols.
 
-ghost use Rattle.med_syntax.specs.ExprAnswers.{ReadsAs};
+ghost use Rattle.med_syntax.specs.Prelude.{ReadsAs, terminals_of, expr_tree, entry_tree};
 ghost use Rattle.med_syntax.specs.ExprReading.{below};
-ghost use Rattle.med_syntax.specs.SymbolView.{terminals_of};
-ghost use Rattle.med_syntax.specs.ExprView.{expr_tree};
-ghost use Rattle.med_syntax.specs.QueryView.{entry_tree};
 ghost use Rattle.query_reader.specs.QueryReading as query;
 ghost use Rattle.std.specs.Prelude.{◌≡◌, ◌<◌, ◌∷◌, [], option_map};
 ghost use Rattle.std.specs.String.{string_bytes};

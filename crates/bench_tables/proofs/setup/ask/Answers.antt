@@ -1,7 +1,6 @@
 use Rattle.std.proofs.Common.{◌≡◌, ◌∙◌, rules, subst, ℕ}
 use Rattle.med_session.specs.Asking.{asked}
-use Rattle.sql_meaning.specs.Replies.{Reply, reply_text}
-use Rattle.sql_meaning.specs.Steps.{Trouble, Step}
+use Rattle.sql_meaning.specs.Prelude.{Reply, reply_text, Trouble, Step}
 use Rattle.bench_tables.proofs.setup.ask.Goals as goal
 
 -- the text of the reply is the one that is wanted

@@ -1,6 +1,5 @@
 use Rattle.std.proofs.Common.{◌≡◌, ◌++◌, map, drop, flat_map}
-use Rattle.med_syntax.specs.QueryTree.{CoreTree}
-use Rattle.med_syntax.specs.QueryView.{core_tree}
+use Rattle.med_syntax.specs.Prelude.{CoreTree, core_tree}
 use Rattle.bind_names.specs.Scope.{entries_of}
 use Rattle.bind_names.specs.Seen.{seen_entry}
 use Rattle.bind_names.proofs.from.push_cores.Given as goal

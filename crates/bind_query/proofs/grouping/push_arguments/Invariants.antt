@@ -1,6 +1,5 @@
 use Rattle.std.proofs.Common.{◌≡◌, ◌++◌, map, flat_map, drop}
-use Rattle.tri_expr.specs.Tree.{tree}
-use Rattle.tri_expr.specs.TreeParts.{arguments_in}
+use Rattle.tri_expr.specs.Prelude.{tree, arguments_in}
 use Rattle.bind_query.proofs.grouping.push_arguments.Given as goal
 
 abbrev pub invariant-loop-e : goal.invariant-loop-e

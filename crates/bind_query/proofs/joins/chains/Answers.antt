@@ -3,8 +3,7 @@ use Rattle.std.proofs.lemmas.List.{map-append}
 use Rattle.std.proofs.lemmas.Result.{err_from_is_err_and}
 use Rattle.med_syntax.specs.QueryView.{chain_tree}
 use Rattle.med_query.specs.Form.{chain_form}
-use Rattle.bind_names.specs.Scope.{table_shape}
-use Rattle.bind_names.specs.Naming.{chain_name_causes}
+use Rattle.bind_names.specs.Prelude.{table_shape, chain_name_causes}
 use Rattle.bind_names.proofs.Causes.{tells_first, next_causes}
 use Rattle.bind_names.proofs.Parts.{drop_read}
 use Rattle.bind_query.proofs.JoinSteps.{chains_next}

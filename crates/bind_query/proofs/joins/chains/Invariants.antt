@@ -1,9 +1,7 @@
 use Rattle.std.proofs.Common.{◌≡◌, ◌++◌, map, flat_map, drop}
 use Rattle.med_syntax.specs.QueryView.{chain_tree}
 use Rattle.med_query.specs.Form.{chain_form}
-use Rattle.bind_names.specs.Scope.{table_shape}
-use Rattle.bind_names.specs.Naming.{chain_name_causes}
-use Rattle.bind_names.specs.Meaning.{chains_meant}
+use Rattle.bind_names.specs.Prelude.{table_shape, chain_name_causes, chains_meant}
 use Rattle.bind_query.proofs.joins.chains.Given as goal
 
 abbrev pub invariant-loop-written : goal.invariant-loop-written

@@ -1,9 +1,7 @@
 use Rattle.std.proofs.Common.{◌≡◌, ◌++◌, suc, [], ◌∷◌, map, drop}
 use Rattle.med_syntax.specs.QueryView.{entry_tree, join_tree}
 use Rattle.med_query.specs.Form.{join_form}
-use Rattle.bind_names.specs.Scope.{scope_of, table_shape, entry_shape}
-use Rattle.bind_names.specs.Naming.{joins_name_causes}
-use Rattle.bind_names.specs.Meaning.{joins_meant}
+use Rattle.bind_names.specs.Prelude.{scope_of, table_shape, entry_shape, joins_name_causes, joins_meant}
 use Rattle.bind_query.proofs.joins.joins.Given as goal
 
 abbrev pub invariant-loop-written : goal.invariant-loop-written

@@ -2,9 +2,7 @@ use Rattle.std.proofs.Common.{◌≡◌, ◌++◌, [], ◌∷◌, suc, map, leng
 use Rattle.std.proofs.lemmas.List.{map-append}
 use Rattle.med_syntax.specs.QueryView.{join_tree}
 use Rattle.med_query.specs.Form.{join_form}
-use Rattle.bind_names.specs.Scope.{scope_of, visible, table_shape, entry_shape, joined_entry}
-use Rattle.bind_names.specs.Naming.{on_name_causes}
-use Rattle.bind_names.specs.Meaning.{with_join, join_meant}
+use Rattle.bind_names.specs.Prelude.{scope_of, visible, table_shape, entry_shape, joined_entry, on_name_causes, with_join, join_meant}
 use Rattle.bind_query.proofs.JoinSteps.{one_suc, brought, width_of}
 use Rattle.bind_query.proofs.joins.push_join.Goals as goal
 

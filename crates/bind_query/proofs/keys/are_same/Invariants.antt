@@ -1,7 +1,6 @@
 use Rattle.std.proofs.Common.{◌≡◌, map, filter, drop}
 use Rattle.std.specs.List.{list_all}
-use Rattle.tri_expr.specs.Tree.{tree}
-use Rattle.tri_expr.specs.TreeParts.{same_tree}
+use Rattle.tri_expr.specs.Prelude.{tree, same_tree}
 use Rattle.bind_names.specs.Meaning.{Output, is_named}
 use Rattle.bind_query.specs.Shown.{output_of}
 use Rattle.bind_query.proofs.keys.are_same.Given as goal

@@ -3,9 +3,7 @@ use Rattle.std.proofs.lemmas.List.{map-append}
 use Rattle.std.proofs.lemmas.Result.{err_from_is_err_and}
 use Rattle.med_syntax.specs.QueryView.{key_tree}
 use Rattle.tri_expr.specs.Tree.{tree}
-use Rattle.bind_names.specs.Scope.{scope_of}
-use Rattle.bind_names.specs.Naming.{key_name_causes}
-use Rattle.bind_names.specs.Meaning.{key_meant}
+use Rattle.bind_names.specs.Prelude.{scope_of, key_name_causes, key_meant}
 use Rattle.bind_query.specs.Shown.{output_of}
 use Rattle.bind_names.proofs.Causes.{tells_first, next_causes}
 use Rattle.bind_names.proofs.Added.{added_after}

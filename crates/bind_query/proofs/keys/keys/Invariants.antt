@@ -1,9 +1,7 @@
 use Rattle.std.proofs.Common.{◌≡◌, ◌++◌, map, flat_map, drop}
 use Rattle.med_syntax.specs.QueryView.{key_tree}
 use Rattle.tri_expr.specs.Tree.{tree}
-use Rattle.bind_names.specs.Scope.{scope_of}
-use Rattle.bind_names.specs.Naming.{key_name_causes}
-use Rattle.bind_names.specs.Meaning.{key_meant}
+use Rattle.bind_names.specs.Prelude.{scope_of, key_name_causes, key_meant}
 use Rattle.bind_query.specs.Shown.{output_of}
 use Rattle.bind_query.proofs.keys.keys.Given as goal
 

@@ -1,8 +1,7 @@
 use Rattle.std.proofs.Common.{◌<◌, ◌++◌, ◌∷◌, [], ◌∙◌, sym, length, map, flat_map, ap, arith}
 use Rattle.std.proofs.lemmas.Result.{err_from_is_err_and}
 use Rattle.med_syntax.specs.QueryView.{key_tree}
-use Rattle.bind_names.specs.Naming.{place_name_causes}
-use Rattle.bind_names.specs.Meaning.{key_place}
+use Rattle.bind_names.specs.Prelude.{place_name_causes, key_place}
 use Rattle.bind_query.specs.Shown.{output_of}
 use Rattle.bind_names.proofs.Causes.{tells_first, next_causes}
 use Rattle.bind_names.proofs.Added.{added_after}

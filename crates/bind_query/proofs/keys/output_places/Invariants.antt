@@ -1,7 +1,6 @@
 use Rattle.std.proofs.Common.{◌≡◌, ◌++◌, map, flat_map, drop}
 use Rattle.med_syntax.specs.QueryView.{key_tree}
-use Rattle.bind_names.specs.Naming.{place_name_causes}
-use Rattle.bind_names.specs.Meaning.{key_place}
+use Rattle.bind_names.specs.Prelude.{place_name_causes, key_place}
 use Rattle.bind_query.specs.Shown.{output_of}
 use Rattle.bind_query.proofs.keys.output_places.Given as goal
 

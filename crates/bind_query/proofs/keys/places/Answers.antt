@@ -1,9 +1,7 @@
 use Rattle.std.proofs.Common.{◌<◌, ◌++◌, ◌∷◌, [], ◌∙◌, sym, length, map, flat_map, ap, arith}
 use Rattle.std.proofs.lemmas.Result.{err_from_is_err_and}
 use Rattle.med_syntax.specs.QueryView.{group_tree}
-use Rattle.bind_names.specs.Scope.{scope_of}
-use Rattle.bind_names.specs.Naming.{group_name_causes}
-use Rattle.bind_names.specs.Meaning.{group_place}
+use Rattle.bind_names.specs.Prelude.{scope_of, group_name_causes, group_place}
 use Rattle.bind_names.proofs.Causes.{tells_first, next_causes}
 use Rattle.bind_names.proofs.Added.{added_after}
 use Rattle.bind_query.proofs.KeySteps.{place_found}

@@ -1,8 +1,6 @@
 use Rattle.std.proofs.Common.{◌≡◌, ◌++◌, map, flat_map, drop}
 use Rattle.med_syntax.specs.QueryView.{group_tree}
-use Rattle.bind_names.specs.Scope.{scope_of}
-use Rattle.bind_names.specs.Naming.{group_name_causes}
-use Rattle.bind_names.specs.Meaning.{group_place}
+use Rattle.bind_names.specs.Prelude.{scope_of, group_name_causes, group_place}
 use Rattle.bind_query.proofs.keys.places.Given as goal
 
 abbrev pub invariant-loop-group : goal.invariant-loop-group

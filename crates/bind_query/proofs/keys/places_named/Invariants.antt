@@ -1,6 +1,5 @@
 use Rattle.std.proofs.Common.{◌≡◌, map, drop}
-use Rattle.bind_names.specs.Meaning.{places_named}
-use Rattle.bind_names.specs.Telling.{with_places}
+use Rattle.bind_names.specs.Prelude.{places_named, with_places}
 use Rattle.bind_names.specs.declared.scope.FoundPlaces.TheVariants.{Nothing}
 use Rattle.bind_query.specs.Shown.{output_of}
 use Rattle.bind_query.proofs.keys.places_named.Given as goal

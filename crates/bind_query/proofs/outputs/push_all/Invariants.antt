@@ -1,6 +1,5 @@
 use Rattle.std.proofs.Common.{◌≡◌, ◌++◌, None, map, drop}
-use Rattle.bind_names.specs.Scope.{scope_of}
-use Rattle.bind_names.specs.Meaning.{starred}
+use Rattle.bind_names.specs.Prelude.{scope_of, starred}
 use Rattle.bind_query.specs.Shown.{output_of}
 use Rattle.bind_query.proofs.outputs.push_all.Given as goal
 

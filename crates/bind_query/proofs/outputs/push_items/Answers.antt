@@ -1,9 +1,7 @@
 use Rattle.std.proofs.Common.{◌<◌, ◌++◌, ◌∙◌, sym, length, map, flat_map, ap, arith}
 use Rattle.std.proofs.lemmas.Result.{err_from_is_err_and}
 use Rattle.med_syntax.specs.QueryView.{item_tree}
-use Rattle.bind_names.specs.Scope.{scope_of}
-use Rattle.bind_names.specs.Naming.{item_name_causes}
-use Rattle.bind_names.specs.Meaning.{item_outputs}
+use Rattle.bind_names.specs.Prelude.{scope_of, item_name_causes, item_outputs}
 use Rattle.bind_query.specs.Shown.{output_of}
 use Rattle.bind_names.proofs.Causes.{tells_first, next_causes}
 use Rattle.bind_names.proofs.Added.{added_after}

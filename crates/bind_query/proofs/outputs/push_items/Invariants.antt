@@ -1,8 +1,6 @@
 use Rattle.std.proofs.Common.{◌≡◌, ◌++◌, map, drop, flat_map}
 use Rattle.med_syntax.specs.QueryView.{item_tree}
-use Rattle.bind_names.specs.Scope.{scope_of}
-use Rattle.bind_names.specs.Naming.{item_name_causes}
-use Rattle.bind_names.specs.Meaning.{item_outputs}
+use Rattle.bind_names.specs.Prelude.{scope_of, item_name_causes, item_outputs}
 use Rattle.bind_query.specs.Shown.{output_of}
 use Rattle.bind_query.proofs.outputs.push_items.Given as goal
 

@@ -3,9 +3,7 @@ use Rattle.std.proofs.lemmas.List.{map-append, drop_all}
 use Rattle.std.proofs.lemmas.Result.{err_from_is_err_and}
 use Rattle.med_syntax.specs.ExprView.{expr_tree, expr_trees}
 use Rattle.tri_expr.specs.Tree.{tree}
-use Rattle.bind_names.specs.Scope.{scope_of}
-use Rattle.bind_names.specs.Naming.{name_causes, name_causes_of_all}
-use Rattle.bind_names.specs.Meaning.{resolved, resolved_all}
+use Rattle.bind_names.specs.Prelude.{scope_of, name_causes, name_causes_of_all, resolved, resolved_all}
 use Rattle.bind_names.proofs.Causes.{tells_first, next_causes}
 use Rattle.bind_query.proofs.Trees.{trees_then, next_part, all_parts}
 use Rattle.bind_names.proofs.Parts.{trees_at, no_higher}

@@ -1,10 +1,7 @@
 use Rattle.std.proofs.Common.{◌≡◌, ◌≤◌, ◌+◌, ◌*◌, map, max, drop}
-use Rattle.med_syntax.specs.ExprTree.{height, highest}
-use Rattle.med_syntax.specs.ExprView.{expr_tree, expr_trees}
+use Rattle.med_syntax.specs.Prelude.{height, highest, expr_tree, expr_trees}
 use Rattle.tri_expr.specs.Tree.{tree, part}
-use Rattle.bind_names.specs.Scope.{scope_of}
-use Rattle.bind_names.specs.Naming.{name_causes_of_all}
-use Rattle.bind_names.specs.Meaning.{resolved_all}
+use Rattle.bind_names.specs.Prelude.{scope_of, name_causes_of_all, resolved_all}
 use Rattle.bind_query.proofs.Trees.{trees_then}
 use Rattle.bind_query.proofs.resolve.+resolve.Given as goal
 

@@ -2,10 +2,7 @@ use Rattle.std.proofs.Common.{List, map, flat_map, ap, sym, subst, ◌∙◌, le
 use Rattle.std.proofs.lemmas.Bool.{eqb-true, eqb-false}
 use Rattle.med_syntax.specs.declared.statement.OrderKey.{OrderKey}
 use Rattle.med_syntax.specs.QueryView.{key_tree, select_tree}
-use Rattle.bind_names.specs.Meaning.{key_meant, key_place, by_keys, by_places}
-use Rattle.bind_names.specs.Naming.{key_name_causes, place_name_causes}
-use Rattle.bind_names.specs.Scope.{scope_of}
-use Rattle.bind_names.specs.Telling.{Means}
+use Rattle.bind_names.specs.Prelude.{key_meant, key_place, by_keys, by_places, key_name_causes, place_name_causes, scope_of, Means}
 use Rattle.bind_query.specs.Resolving.{sorting_form}
 use Rattle.bind_query.specs.Shown.{output_of}
 use Rattle.bind_query.proofs.KeySteps.{sorts_alone, sorts_several}

@@ -1,8 +1,7 @@
 use Rattle.std.proofs.Common.{◌<◌, ◌∙◌, length, map, flat_map, ap, arith}
 use Rattle.std.proofs.lemmas.Result.{err_from_is_err_and}
 use Rattle.med_syntax.specs.ExprView.{expr_tree}
-use Rattle.bind_names.specs.Scope.{scope_of}
-use Rattle.bind_names.specs.Naming.{name_causes}
+use Rattle.bind_names.specs.Prelude.{scope_of, name_causes}
 use Rattle.bind_names.proofs.Causes.{tells_first}
 use Rattle.bind_names.proofs.Parts.{drop_read}
 use Rattle.bind_query.proofs.values.resolve_values.Goals as goal

@@ -1,9 +1,7 @@
 use Rattle.std.proofs.Common.{◌≡◌, ◌++◌, map, flat_map, drop}
 use Rattle.med_syntax.specs.ExprView.{expr_tree}
 use Rattle.tri_expr.specs.Tree.{tree}
-use Rattle.bind_names.specs.Scope.{scope_of}
-use Rattle.bind_names.specs.Naming.{name_causes}
-use Rattle.bind_names.specs.Meaning.{resolved}
+use Rattle.bind_names.specs.Prelude.{scope_of, name_causes, resolved}
 use Rattle.bind_query.proofs.values.resolve_values.Given as goal
 
 abbrev pub invariant-loop-written : goal.invariant-loop-written

@@ -2,8 +2,7 @@ use Rattle.std.proofs.Common.{◌≡◌, List, map, ap, subst, ◌∙◌}
 use Rattle.med_value.specs.declared.cause.Cause.{Cause}
 use Rattle.med_syntax.specs.declared.statement.Chain.{Chain}
 use Rattle.med_syntax.specs.QueryView.{chain_tree, core_tree}
-use Rattle.bind_names.specs.Scope.{Scope, scope_of, table_shape, from_scope}
-use Rattle.bind_names.specs.Telling.{Passes}
+use Rattle.bind_names.specs.Prelude.{Scope, scope_of, table_shape, from_scope, Passes}
 use Rattle.bind_types.specs.Kinds.{asked_type_causes}
 use Rattle.bind_types.proofs.KeyTypes.{written_is}
 use Rattle.bind_types.proofs.checks.check_core.Goals as goal

@@ -2,8 +2,7 @@ use Rattle.std.proofs.Common.{◌≡◌, ◌+◌, ◌<◌, ◌++◌, [], ◌∷�
 use Rattle.std.proofs.lemmas.List.{map-append}
 use Rattle.std.proofs.lemmas.Result.{err_from_is_err_and}
 use Rattle.med_syntax.specs.QueryView.{join_tree}
-use Rattle.bind_names.specs.Scope.{TableShape, Scope, scope_of, visible, table_shape, entry_shape}
-use Rattle.bind_names.specs.Meaning.{with_join}
+use Rattle.bind_names.specs.Prelude.{TableShape, Scope, scope_of, visible, table_shape, entry_shape, with_join}
 use Rattle.bind_types.specs.Typing.{on_type_causes, joins_type_causes}
 use Rattle.bind_names.proofs.Causes.{tells_first, tells_same}
 use Rattle.bind_names.proofs.Parts.{drop_read}

@@ -3,9 +3,7 @@ use Rattle.med_value.specs.declared.cause.Cause.{Cause}
 use Rattle.med_syntax.specs.declared.statement.Chain.{Chain}
 use Rattle.med_syntax.specs.declared.statement.OrderKey.{OrderKey}
 use Rattle.med_syntax.specs.QueryView.{chain_tree, key_tree, select_tree}
-use Rattle.bind_names.specs.Scope.{Scope, scope_of, table_shape, from_scope}
-use Rattle.bind_names.specs.Meaning.{core_outputs}
-use Rattle.bind_names.specs.Telling.{Passes}
+use Rattle.bind_names.specs.Prelude.{Scope, scope_of, table_shape, from_scope, core_outputs, Passes}
 use Rattle.bind_types.specs.Kinds.{written_key_causes}
 use Rattle.bind_types.proofs.KeyTypes.{keys_types}
 use Rattle.bind_types.proofs.checks.check_order.Goals as goal

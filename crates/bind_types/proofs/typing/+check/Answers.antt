@@ -2,8 +2,7 @@ use Rattle.std.proofs.Common.{◌+◌, ◌<◌, ◌++◌, [], ◌∷◌, length,
 use Rattle.std.proofs.lemmas.List.{drop_all}
 use Rattle.std.proofs.lemmas.Result.{err_from_is_err_and}
 use Rattle.med_syntax.specs.ExprView.{expr_tree, expr_trees}
-use Rattle.bind_names.specs.Scope.{scope_of}
-use Rattle.bind_names.specs.Meaning.{function_named}
+use Rattle.bind_names.specs.Prelude.{scope_of, function_named}
 use Rattle.bind_types.specs.Typing.{type_of, types_of, comparing, as_condition, as_text, type_causes, type_causes_of_all, condition_causes}
 use Rattle.bind_names.proofs.Causes.{tells_left, tells_right, tells_one, tells_first, next_causes, none_of_two}
 use Rattle.bind_names.proofs.Parts.{trees_at, no_higher}

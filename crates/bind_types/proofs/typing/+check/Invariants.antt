@@ -1,6 +1,5 @@
 use Rattle.std.proofs.Common.{◌≡◌, ◌≤◌, ◌+◌, ◌*◌, ◌∷◌, max, drop}
-use Rattle.med_syntax.specs.ExprTree.{height, highest}
-use Rattle.med_syntax.specs.ExprView.{expr_tree, expr_trees}
+use Rattle.med_syntax.specs.Prelude.{height, highest, expr_tree, expr_trees}
 use Rattle.bind_names.specs.Scope.{scope_of}
 use Rattle.bind_types.specs.Typing.{types_of, comparing, type_causes_of_all, condition_causes}
 use Rattle.bind_types.proofs.typing.+check.Given as goal

@@ -1,12 +1,9 @@
 use Rattle.std.proofs.Common.{ap, sym, refl, map, ◌∙◌, []}
 use Rattle.std.proofs.lemmas.Result.{err_from_is_err_and}
-use Rattle.med_syntax.specs.WriteTree.{delete}
-use Rattle.med_syntax.specs.WriteView.{delete_tree}
+use Rattle.med_syntax.specs.Prelude.{delete, delete_tree}
 use Rattle.med_catalog.specs.View.{objects}
 use Rattle.med_write.specs.Form.{delete_form}
-use Rattle.med_binder.specs.Barred.{target_right_causes}
-use Rattle.med_binder.specs.Tables.{shapes}
-use Rattle.med_binder.specs.Places.{attached}
+use Rattle.med_binder.specs.Prelude.{target_right_causes, shapes, attached}
 use Rattle.bind_write.specs.Meaning.{written_column, scope_in}
 use Rattle.bind_write.specs.Naming.{target_causes}
 use Rattle.bind_write.specs.Typing.{types_of}

@@ -1,14 +1,10 @@
 use Rattle.std.proofs.Common.{ap, refl, map, option_map, ◌∙◌, ◌++◌}
 use Rattle.std.proofs.lemmas.Result.{err_from_is_err_and}
-use Rattle.med_syntax.specs.QueryView.{statement_tree}
+use Rattle.med_syntax.specs.Prelude.{statement_tree, names_tree}
 use Rattle.bind_types.specs.Kinds.{types_in}
-use Rattle.med_syntax.specs.WriteView.{names_tree}
 use Rattle.med_catalog.specs.View.{objects}
 use Rattle.bind_names.specs.Naming.{entered_causes}
-use Rattle.med_binder.specs.Barred.{target_right_causes, query_right_causes}
-use Rattle.med_binder.specs.Looked.{query_in}
-use Rattle.med_binder.specs.Tables.{shapes}
-use Rattle.med_binder.specs.Places.{attached}
+use Rattle.med_binder.specs.Prelude.{target_right_causes, query_right_causes, query_in, shapes, attached}
 use Rattle.std.proofs.lemmas.List.Elements.{Contains-append_left}
 use Rattle.bind_write.specs.Meaning.{written_column, columns_in}
 use Rattle.bind_write.specs.Naming.{target_causes}

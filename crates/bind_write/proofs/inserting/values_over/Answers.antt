@@ -4,9 +4,7 @@ use Rattle.med_syntax.specs.WriteView.{names_tree, row_tree}
 use Rattle.med_catalog.specs.View.{objects}
 use Rattle.med_write.specs.Form.{trees_of}
 use Rattle.bind_names.proofs.Causes.{tells_same}
-use Rattle.med_binder.specs.Barred.{target_right_causes}
-use Rattle.med_binder.specs.Tables.{shapes}
-use Rattle.med_binder.specs.Places.{attached}
+use Rattle.med_binder.specs.Prelude.{target_right_causes, shapes, attached}
 use Rattle.bind_write.specs.Binding.{values_write}
 use Rattle.bind_write.specs.Meaning.{written_column, columns_in, row_meant}
 use Rattle.bind_write.specs.Naming.{target_causes, named_causes, row_name_causes, names_of}

@@ -1,11 +1,9 @@
 use Rattle.std.proofs.Common.{map, option_map}
 use Rattle.std.proofs.lemmas.Result.{err_from_is_err_and}
 use Rattle.med_value.specs.Column.{column_of}
-use Rattle.med_syntax.specs.QueryView.{statement_tree}
-use Rattle.med_syntax.specs.WriteView.{names_tree}
+use Rattle.med_syntax.specs.Prelude.{statement_tree, names_tree}
 use Rattle.med_catalog.specs.View.{objects}
-use Rattle.med_binder.specs.Looked.{query_in}
-use Rattle.med_binder.specs.Places.{attached}
+use Rattle.med_binder.specs.Prelude.{query_in, attached}
 use Rattle.bind_write.proofs.Queries.{query_list, query_early, query_judged}
 use Rattle.bind_write.proofs.querying.ask_query.Goals as goal
 

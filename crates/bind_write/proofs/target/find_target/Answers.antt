@@ -3,8 +3,7 @@ use Rattle.std.proofs.lemmas.Result.{err_from_is_err_and}
 use Rattle.med_value.specs.Column.{column_of}
 use Rattle.bind_names.proofs.Causes.{tells_one, tells_left, tells_right, tells_same}
 use Rattle.med_catalog.specs.View.{objects, table_of}
-use Rattle.med_binder.specs.Barred.{target_right_causes, writing_causes}
-use Rattle.med_binder.specs.Tables.{shapes}
+use Rattle.med_binder.specs.Prelude.{target_right_causes, writing_causes, shapes}
 use Rattle.bind_write.specs.Naming.{target_causes}
 use Rattle.bind_write.proofs.Targets.{target_missing, target_known, target_columns, rights_there, target_placed, place_within, place_there}
 use Rattle.bind_write.proofs.target.find_target.Goals as goal

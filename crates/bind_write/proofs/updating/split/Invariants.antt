@@ -1,7 +1,6 @@
 use Rattle.std.proofs.Common.{◌≡◌, ◌++◌, map, string_bytes}
 use Rattle.std.specs.Vec.Iter.{into_iter_items}
-use Rattle.med_syntax.specs.ExprView.{expr_tree}
-use Rattle.med_syntax.specs.WriteView.{set_tree}
+use Rattle.med_syntax.specs.Prelude.{expr_tree, set_tree}
 use Rattle.bind_write.specs.Naming.{set_names, set_values}
 use Rattle.bind_write.proofs.updating.split.Given as goal
 

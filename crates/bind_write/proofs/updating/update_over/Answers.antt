@@ -2,15 +2,11 @@ use Rattle.std.proofs.Common.{ap, sym, refl, map, option_map, string_bytes, â—Œâ
 use Rattle.std.proofs.lemmas.Result.{err_from_is_err_and}
 use Rattle.med_value.specs.Column.{column_of}
 use Rattle.med_value.specs.declared.cause.Cause.TheVariants.{MisplacedName}
-use Rattle.med_syntax.specs.ExprView.{expr_tree}
-use Rattle.med_syntax.specs.WriteTree.{update}
-use Rattle.med_syntax.specs.WriteView.{update_tree}
+use Rattle.med_syntax.specs.Prelude.{expr_tree, update, update_tree}
 use Rattle.tri_expr.specs.Tree.{tree}
 use Rattle.med_catalog.specs.View.{objects}
 use Rattle.bind_names.proofs.Causes.{tells_same}
-use Rattle.med_binder.specs.Barred.{target_right_causes}
-use Rattle.med_binder.specs.Tables.{shapes}
-use Rattle.med_binder.specs.Places.{attached}
+use Rattle.med_binder.specs.Prelude.{target_right_causes, shapes, attached}
 use Rattle.bind_write.specs.Meaning.{written_column, columns_in, scope_in}
 use Rattle.bind_write.specs.Naming.{target_causes, set_names, set_values}
 use Rattle.bind_types.specs.TreeTypes.{column_kinds}

@@ -3,8 +3,7 @@ use Rattle.std.proofs.lemmas.List.Elements.{Contains-append_left, Contains-appen
 use Rattle.std.proofs.lemmas.Result.{err_from_is_err_and}
 use Rattle.med_syntax.specs.ExprView.{expr_tree}
 use Rattle.tri_expr.specs.Tree.{tree}
-use Rattle.bind_names.specs.Naming.{name_causes, condition_name_causes}
-use Rattle.bind_names.specs.Scope.{scope_of}
+use Rattle.bind_names.specs.Prelude.{name_causes, condition_name_causes, scope_of}
 use Rattle.bind_write.specs.Asking.{value_names}
 use Rattle.bind_write.specs.Typing.{asked_types}
 use Rattle.bind_write.proofs.Lists.{names_in_turn}

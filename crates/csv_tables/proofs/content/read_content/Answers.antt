@@ -1,13 +1,15 @@
-use Rattle.std.proofs.Common.{◌≡◌, ◌≤◌, ◌∙◌, [], true, ap, sym, ℕ, length, arith}
-use Rattle.csv_tables.specs.CsvRecords.{csv_records}
+use Rattle.std.proofs.Common.{◌≡◌, ◌≤◌, ◌∙◌, [], true, ap, sym, subst, ℕ, length, arith}
+use Rattle.csv_tables.specs.CsvRecords.{csv_records, is_whole}
 use Rattle.csv_tables.specs.Content.{rows_so_far}
 use Rattle.csv_tables.specs.Flat.{cut_into, header_in}
 use Rattle.csv_tables.specs.Tables.{shape_is}
 use Rattle.csv_tables.proofs.Flat.{cut_length, texts_cut, texts_behind}
+use Rattle.csv_tables.proofs.Shown.{plain_told}
 use Rattle.csv_tables.proofs.Drafts.{no_causes, heading_first}
 use Rattle.csv_tables.proofs.content.read_content.Goals as goal
 use Rattle.csv_tables.specs.Held.{held_of, ended}
-use Rattle.std.specs.List.{flat_map}
+use Rattle.std.specs.List.{flat_map, list_all}
+use Rattle.csv.specs.Records.{fields_of}
 
 pub returns-clause-ok : goal.returns-clause-ok
 returns-clause-ok c =
@@ -40,3 +42,14 @@ invariant_of-result-clause-texts c =
     let d = c.in_ok-draft.draft in
     let was = c.in_ok-draft.ensures.draft in
     texts_cut d.count (length shape.kinds) (held_of d.fields) was.full (texts_behind (header_in d.header) (rows_so_far shape d) (length shape.kinds) was.whole)
+
+pub invariant_of-result-clause-shown : goal.invariant_of-result-clause-shown
+invariant_of-result-clause-shown c =
+    let shape = shape_is c.args.layout.now in
+    let d = c.in_ok-draft.draft in
+    let was = c.in_ok-draft.ensures.draft in
+    let e : length shape.kinds ≡ c.len-width.result = omega arith in
+    let whole = texts_behind (header_in d.header) (rows_so_far shape d) (length shape.kinds) was.whole in
+    plain_told c.are_plain-plain.result (cut_into d.count c.len-width.result (held_of d.fields)) (λ is. c.are_plain-plain.ensures is (cut_into d.count c.len-width.result (held_of d.fields))
+    (subst (λ (k : ℕ). list_all (is_whole k) (cut_into d.count k (held_of d.fields)) ≡ true) e whole)
+    (subst (λ (k : ℕ). fields_of d.fields ≡ flat_map ended (cut_into d.count k (held_of d.fields))) e was.lines))

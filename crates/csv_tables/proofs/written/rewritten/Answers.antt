@@ -1,122 +1,145 @@
-use Rattle.std.proofs.Common.{◌≡◌, ◌+◌, ◌-◌, ◌<◌, ◌≤◌, ◌∷◌, ◌++◌, [], ◌∙◌, sym, ap, length, take, drop, refl, arith, rules}
-use Rattle.std.proofs.lemmas.List.{drop_all, nil_from_length}
+use Rattle.std.proofs.Common.{◌≡◌, ◌≤◌, ◌+◌, ◌-◌, ◌∷◌, ◌++◌, ◌∙◌, [], List, ℕ, Option, Some, None, true, take, drop, ap, subst, sym, refl, rules, arith}
+use Rattle.std.specs.List.Sorted.{IsStrictlySortedBy}
+use Rattle.std.specs.Ordering.{nat_cmp}
+use Rattle.std.specs.Map.{keys_of}
+use Rattle.std.proofs.lemmas.Map.Iter.{rest_more, rest_all}
 use Rattle.csv.specs.Records.{fields_of}
-use Rattle.wrapper_parts.specs.declared.fates.Fate.TheVariants.{Keep, Change as ChangeTo, Gone}
+use Rattle.csv.specs.declared.record.ByteRecord.{ByteRecord}
+use Rattle.csv_tables.specs.CsvRecords.{Record, is_whole}
 use Rattle.csv_tables.specs.Held.{held_of}
-use Rattle.csv_tables.specs.Tables.{records_of, record_at}
-use Rattle.csv_tables.specs.Rewriting.{left_by}
-use Rattle.csv_tables.proofs.Flat.{cut_drop, cut_length}
-use Rattle.csv_tables.proofs.Gathering.{wide_first, gathers_all, run_more, run_none}
-use Rattle.wrapper_parts.proofs.Weaves.{fate_on, fate_gone, fate_past, fates_end}
+use Rattle.csv_tables.specs.Tables.{records_of}
+use Rattle.csv_tables.specs.Rewriting.{is_wide, left_by, fate_is, fates_of}
+use Rattle.csv_tables.proofs.Flat.{cut_length}
+use Rattle.csv_tables.proofs.Gathering.{gathers_all}
+use Rattle.csv_tables.proofs.Changes.{Entries, Behind, fate_in, left_from, set_records, set_next, set_past, set_end, set_on, gone_on, all_from_zero, wide_here, wide_rest}
+use Rattle.csv_tables.proofs.written.rewritten.Goals.{in-Some-line+in_ok-gather-in-Some-line, in-None-line}
 use Rattle.csv_tables.proofs.written.rewritten.Goals as goal
-use Rattle.csv_tables.proofs.written.rewritten.Goals.{in-Keep, in-Change+in_ok-gathered-in-Change+in_ok-gather-in-Change, in-Gone+in_ok-gathered-in-Gone}
 
-pub loop-fate-preserved-then-at-rows : goal.loop-fate-preserved-then-at-rows
-loop-fate-preserved-then-at-rows c =
+pub loop-id-init : goal.loop-id-init
+loop-id-init c =
+    let gives = c.into_iter-id-iterator.ensures.into_iter_gives in
     let s = c.args.rows.now in
-    let at = c.loop-fate.at in
-    let from = c.loop-fate.from in
-    let i = c.loop-fate.invariant in
+    record {
+      few = omega arith;
+      within = omega arith;
+      behind = all_from_zero c.into_iter-id-iterator.result;
+      sorted = subst (λ (es : Entries). IsStrictlySortedBy nat_cmp (keys_of es)) (sym gives.0) gives.5;
+      wide = λ place. ap (λ (es : Entries). is_wide s.width (fate_in es place)) gives.0 ∙ c.requires.wide place;
+      done = ([], c.requires.gathers, refl);
+    }
+
+pub loop-id-preserved-then-place-rows : goal.loop-id-preserved-then-place-rows
+loop-id-preserved-then-place-rows c =
+    let s = c.args.rows.now in
     let rs = records_of s in
-    let fs = c.loop-fate.fate-iterator.rest.items in
-    let gs = c.next.new.self.rest.items in
-    let lt : at < s.count = c.if-at-rows.true in
-    let next = cut_drop at s.count s.width (held_of s.fields) lt in
+    let k = c.in-Some.id in
+    let o = c.in-Some.line in
+    let at = c.loop-id.at in
+    let es = c.next.new.self in
+    let i = c.loop-id.invariant in
+    let first : c.loop-id.id-iterator ≡ (k, o) ∷ es = rest_more (λ p. p) c.loop-id.id-iterator es c.next.result (k, o) c.in-Some.is c.next.ensures.steps in
+    let sorted = subst (λ (l : Entries). IsStrictlySortedBy nat_cmp (keys_of l)) first i.sorted in
+    let wide = subst (λ (l : Entries). (place : ℕ) → is_wide s.width (fate_in l place) ≡ true) first i.wide in
+    let count = cut_length s.count s.width (held_of s.fields) in
+    let behind = subst (Behind at) first i.behind in
+    let ahead : at ≤ k = behind.0 in
+    let n = set_next k o es at rs behind sorted (omega arith) in
+    let run = take (k - at) (drop at rs) in
+    let rest = left_from es (k + 1) (drop (k + 1) rs) in
+    let left = ap (λ (l : Entries). left_from l at (drop at rs)) first ∙ n.0 in
+    let kept = c.in_ok-gathered.ensures in
+    let copied = kept.rows i.done.0 i.done.1 in
     let few = i.few in
-    let order = i.order in
-    let run = i.done.0 ++ take (at - from) (drop from rs) in
-    elim c.match-fate.branch [
-      | in-Keep w ↦
-          (let e : fs ≡ Keep ∷ gs = search rules in
-          rw (w.gathered-is, w.from-is) record {
-            wide = (wide_first s.width Keep fs gs e i.wide).1;
-            few = i.few;
-            order = omega arith;
+    let size = kept.count in
+    elim c.match-line-2.branch [
+      | in-Some-line+in_ok-gather-in-Some-line w ↦
+          (let is : o ≡ Some w.in-Some-line.new = search rules in
+          let here = wide_here s.width k o es wide in
+          let whole : is_whole s.width (fields_of w.in-Some-line.new) ≡ true = ap (λ (x : Option ByteRecord). is_wide s.width (fate_is (Some x))) (sym is) ∙ here in
+          let g = w.in_ok-gather-in-Some-line.ensures in
+          let more = g.count in
+          let set = left ∙ ap (λ (x : Option ByteRecord). run ++ (set_records x ++ rest)) is in
+          rw w.gathered-is record {
+            few = omega arith;
             within = omega arith;
+            behind = n.1;
+            sorted = n.2;
+            wide = wide_rest s.width k o es sorted wide;
             done = (
-              i.done.0,
-              i.done.1,
-              ap (λ l. l ++ left_by gs (drop (at + 1) rs)) (sym (run_more i.done.0 rs from at _ _ i.order next))
-                  ∙ fate_on fields_of run _ _ _ _ (record_at s at) Keep fs gs i.done.2 e next refl,
+              (i.done.0 ++ run) ++ fields_of w.in-Some-line.new ∷ [],
+              g.rows s.width (i.done.0 ++ run) copied whole,
+              set_on i.done.0 run (fields_of w.in-Some-line.new) _ rest _ i.done.2 set,
             );
           })
-      | in-Change+in_ok-gathered-in-Change+in_ok-gather-in-Change w ↦
-          (let e : fs ≡ ChangeTo w.in-Change.new ∷ gs = search rules in
-          let k = w.in_ok-gathered-in-Change.ensures in
-          let g = w.in_ok-gather-in-Change.ensures in
-          let kept = k.count in
-          let count = g.count in
-          let wide = wide_first s.width (ChangeTo w.in-Change.new) fs gs e i.wide in
-          let done = run ++ fields_of w.in-Change.new ∷ [] in
-          rw (w.gathered-is, w.from-is) record {
-            wide = wide.1;
+      | in-None-line w ↦
+          (let is : o ≡ None = search rules in
+          let set = left ∙ ap (λ (x : Option ByteRecord). run ++ (set_records x ++ rest)) is in
+          rw w.gathered-is record {
             few = omega arith;
-            order = omega arith;
             within = omega arith;
-            done = (
-              done,
-              g.rows s.width run (k.rows i.done.0 i.done.1) wide.0,
-              ap (λ l. l ++ left_by gs (drop (at + 1) rs)) (sym (run_none done rs (at + 1)))
-                  ∙ fate_on fields_of run _ _ _ _ (fields_of w.in-Change.new) (ChangeTo w.in-Change.new) fs gs i.done.2 e next refl,
-            );
-          })
-      | in-Gone+in_ok-gathered-in-Gone w ↦
-          (let e : fs ≡ Gone ∷ gs = search rules in
-          let k = w.in_ok-gathered-in-Gone.ensures in
-          let kept = k.count in
-          rw (w.gathered-is, w.from-is) record {
-            wide = (wide_first s.width Gone fs gs e i.wide).1;
-            few = omega arith;
-            order = omega arith;
-            within = omega arith;
-            done = (
-              run,
-              k.rows i.done.0 i.done.1,
-              ap (λ l. l ++ left_by gs (drop (at + 1) rs)) (sym (run_none run rs (at + 1)))
-                  ∙ fate_gone fields_of run _ _ _ _ fs gs i.done.2 e next,
-            );
+            behind = n.1;
+            sorted = n.2;
+            wide = wide_rest s.width k o es sorted wide;
+            done = (i.done.0 ++ run, copied, gone_on i.done.0 run _ rest _ i.done.2 set);
           })
     ]
 
-pub loop-fate-preserved-else-at-rows : goal.loop-fate-preserved-else-at-rows
-loop-fate-preserved-else-at-rows c =
+pub loop-id-preserved-else-place-rows : goal.loop-id-preserved-else-place-rows
+loop-id-preserved-else-place-rows c =
     let s = c.args.rows.now in
-    let i = c.loop-fate.invariant in
-    let fs = c.loop-fate.fate-iterator.rest.items in
-    let gs = c.next.new.self.rest.items in
-    let e : fs ≡ c.in-Some.fate ∷ gs = search rules in
-    let n = cut_length s.count s.width (held_of s.fields) in
-    let le : length (records_of s) ≤ c.loop-fate.at = omega arith in
+    let k = c.in-Some.id in
+    let o = c.in-Some.line in
+    let at = c.loop-id.at in
+    let es = c.next.new.self in
+    let i = c.loop-id.invariant in
+    let first : c.loop-id.id-iterator ≡ (k, o) ∷ es = rest_more (λ p. p) c.loop-id.id-iterator es c.next.result (k, o) c.in-Some.is c.next.ensures.steps in
+    let sorted = subst (λ (l : Entries). IsStrictlySortedBy nat_cmp (keys_of l)) first i.sorted in
+    let wide = subst (λ (l : Entries). (place : ℕ) → is_wide s.width (fate_in l place) ≡ true) first i.wide in
+    let count = cut_length s.count s.width (held_of s.fields) in
+    let p = set_past k o es at (records_of s) (subst (Behind at) first i.behind) sorted (omega arith) (omega arith) in
     record {
-      wide = (wide_first s.width c.in-Some.fate fs gs e i.wide).1;
       few = i.few;
-      order = i.order;
       within = i.within;
-      done = (i.done.0, i.done.1, fate_past fields_of _ _ _ fs gs i.done.2 (drop_all c.loop-fate.at (records_of s) le));
+      behind = p.1;
+      sorted = p.2;
+      wide = wide_rest s.width k o es sorted wide;
+      done = (i.done.0, i.done.1, ap (λ (ls : List Record). i.done.0 ++ ls) (sym (ap (λ (l : Entries). left_from l at (drop at (records_of s))) first ∙ p.0)) ∙ i.done.2);
     }
 
-pub loop-fate-preserved : goal.loop-fate-preserved
-loop-fate-preserved c =
+pub loop-id-preserved : goal.loop-id-preserved
+loop-id-preserved c =
     let s = c.args.rows.now in
-    let i = c.loop-fate.invariant in
-    let fs = c.loop-fate.fate-iterator.rest.items in
-    let gs = c.next.new.self.rest.items in
-    let e : fs ≡ c.in-Some.fate ∷ gs = search rules in
-    let n = cut_length s.count s.width (held_of s.fields) in
-    let le : length (records_of s) ≤ c.loop-fate.at = omega arith in
+    let k = c.in-Some.id in
+    let o = c.in-Some.line in
+    let at = c.loop-id.at in
+    let es = c.next.new.self in
+    let i = c.loop-id.invariant in
+    let first : c.loop-id.id-iterator ≡ (k, o) ∷ es = rest_more (λ p. p) c.loop-id.id-iterator es c.next.result (k, o) c.in-Some.is c.next.ensures.steps in
+    let sorted = subst (λ (l : Entries). IsStrictlySortedBy nat_cmp (keys_of l)) first i.sorted in
+    let wide = subst (λ (l : Entries). (place : ℕ) → is_wide s.width (fate_in l place) ≡ true) first i.wide in
+    let count = cut_length s.count s.width (held_of s.fields) in
+    let p = set_past k o es at (records_of s) (subst (Behind at) first i.behind) sorted (omega arith) (omega arith) in
     record {
-      wide = (wide_first s.width c.in-Some.fate fs gs e i.wide).1;
       few = i.few;
-      order = i.order;
       within = i.within;
-      done = (i.done.0, i.done.1, fate_past fields_of _ _ _ fs gs i.done.2 (drop_all c.loop-fate.at (records_of s) le));
+      behind = p.1;
+      sorted = p.2;
+      wide = wide_rest s.width k o es sorted wide;
+      done = (i.done.0, i.done.1, ap (λ (ls : List Record). i.done.0 ++ ls) (sym (ap (λ (l : Entries). left_from l at (drop at (records_of s))) first ∙ p.0)) ∙ i.done.2);
     }
 
 pub returns : goal.returns
 returns c =
     let s = c.args.rows.now in
-    let i = c.loop-fate.invariant in
-    let none = nil_from_length c.loop-fate.fate-iterator.rest.items (search rules) in
-    let start : c.into_iter-fate-iterator.result.rest.items ≡ c.args.fates.items = search rules in
-    let all = fates_end fields_of _ _ _ c.loop-fate.fate-iterator.rest.items i.done.2 none ∙ ap (λ fs. left_by fs (records_of s)) start in
-    gathers_all s.width _ _ c.with_kept-2.result (c.with_kept-2.ensures.rows i.done.0 i.done.1) all
+    let rs = records_of s in
+    let at = c.loop-id.at in
+    let i = c.loop-id.invariant in
+    let gives = c.into_iter-id-iterator.ensures.into_iter_gives in
+    let none : c.loop-id.id-iterator ≡ [] = rest_all (λ p. p) c.loop-id.id-iterator c.next.new.self c.next.result c.in-None.is c.next.ensures.steps in
+    let count = cut_length s.count s.width (held_of s.fields) in
+    let all : i.done.0 ++ take (s.count - at) (drop at rs) ≡ left_from c.args.changed.entries 0 rs =
+    ap (λ (n : ℕ). i.done.0 ++ take (n - at) (drop at rs)) (sym count)
+    ∙ ap (λ (ls : List Record). i.done.0 ++ ls) (sym (set_end c.loop-id.id-iterator at rs none)) ∙ i.done.2
+    ∙ ap (λ (es : Entries). left_from es 0 rs) gives.0 in
+    gathers_all s.width _ _ c.with_kept-2.result (c.with_kept-2.ensures.rows i.done.0 i.done.1)
+    (all ∙ ap (λ (n : ℕ). left_by (fates_of c.args.changed n) rs) count)

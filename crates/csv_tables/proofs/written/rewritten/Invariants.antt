@@ -1,17 +1,20 @@
-use Rattle.std.proofs.Common.{◌≡◌, ◌≤◌, ◌-◌, ◌++◌, true, List, take, drop}
-use Rattle.std.specs.List.{list_all}
+use Rattle.std.proofs.Common.{◌≡◌, ◌≤◌, ◌++◌, ℕ, true, List, drop}
+use Rattle.std.specs.List.Sorted.{IsStrictlySortedBy}
+use Rattle.std.specs.Ordering.{nat_cmp}
+use Rattle.std.specs.Map.{keys_of}
 use Rattle.csv_tables.specs.CsvRecords.{Record}
 use Rattle.csv_tables.specs.Tables.{records_of}
-use Rattle.csv_tables.specs.Rewriting.{is_wide, left_by, Gathers}
+use Rattle.csv_tables.specs.Rewriting.{is_wide, Gathers}
+use Rattle.csv_tables.proofs.Changes.{Behind, fate_in, left_from}
 use Rattle.csv_tables.proofs.written.rewritten.Given as goal
 
-abbrev pub invariant-loop-fate : goal.invariant-loop-fate
-invariant-loop-fate l = record {
-  wide : list_all (is_wide l.rows.width) l.fate-iterator.rest.items ≡ true;
-  few : l.gathered.count ≤ l.from;
-  order : l.from ≤ l.at;
+abbrev pub invariant-loop-id : goal.invariant-loop-id
+invariant-loop-id l = record {
+  few : l.gathered.count ≤ l.at;
   within : l.at ≤ l.rows.count;
+  behind : Behind l.at l.id-iterator;
+  sorted : IsStrictlySortedBy nat_cmp (keys_of l.id-iterator);
+  wide : (place : ℕ) → is_wide l.rows.width (fate_in l.id-iterator place) ≡ true;
   done : (done : List Record) × Gathers l.rows.width done l.gathered
-      × ((done ++ take (l.at - l.from) (drop l.from (records_of l.rows))) ++ left_by l.fate-iterator.rest.items (drop l.at (records_of l.rows))
-      ≡ left_by l.initial.fate-iterator.rest.items (records_of l.rows));
+      × (done ++ left_from l.id-iterator l.at (drop l.at (records_of l.rows)) ≡ left_from l.initial.id-iterator 0 (records_of l.rows));
 }

@@ -2,9 +2,8 @@ use Rattle.std.proofs.Common.{List, [], ◌∷◌, ◌++◌}
 use Rattle.std.specs.String.{string_bytes}
 use Rattle.med_syntax.specs.declared.expr.Joint.TheVariants.{And}
 use Rattle.med_syntax.specs.Terminal as terms
-use Rattle.med_syntax.specs.ExprTree.{perhaps_not, status_terminal, spelling, spellings}
+use Rattle.med_syntax.specs.Prelude.{perhaps_not, status_terminal, spelling, spellings, expr_tree, expr_trees}
 use Rattle.expr_writer.specs.ExprPrinting.{fixed_terminal}
-use Rattle.med_syntax.specs.ExprView.{expr_tree, expr_trees}
 use Rattle.expr_writer.proofs.ExprPrints.{then_if, more_if}
 use Rattle.expr_writer.proofs.writer.+writer.Goals as goal
 

@@ -1,9 +1,8 @@
 use Rattle.std.proofs.Common.{◌≡◌, ◌≤◌, ◌+◌, ◌*◌, ◌++◌, length, max}
 use Rattle.std.specs.String.{string_bytes}
 use Rattle.med_lexer.specs.Printing.{behind_spaces}
-use Rattle.med_syntax.specs.ExprTree.{height, highest, spellings}
+use Rattle.med_syntax.specs.Prelude.{height, highest, spellings, expr_tree, expr_trees}
 use Rattle.expr_writer.specs.ExprPrinting.{fixed_terminal, shapes_for}
-use Rattle.med_syntax.specs.ExprView.{expr_tree, expr_trees}
 use Rattle.expr_writer.proofs.writer.+writer.Given as goal
 
 abbrev pub decreases-write : goal.decreases-write

@@ -1,7 +1,6 @@
 use Rattle.std.proofs.Common.{◌≡◌, List, length}
 use Rattle.fed_stream.specs.Streams.{stream}
-use Rattle.med_session.specs.Engine.{IsSound}
-use Rattle.med_session.specs.Shows.{shown}
+use Rattle.med_session.specs.Prelude.{IsSound, shown}
 use Rattle.fed_cli.specs.Turns.{Turn, AreTaken, AreServed}
 use Rattle.fed_cli.proofs.turns.serve_connections.Given as goal
 

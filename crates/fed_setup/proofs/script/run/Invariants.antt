@@ -1,5 +1,4 @@
-use Rattle.med_session.specs.Engine.{IsSound}
-use Rattle.med_session.specs.Shows.{shown}
+use Rattle.med_session.specs.Prelude.{IsSound, shown}
 use Rattle.fed_setup.specs.Engines.{EngineAnswers}
 use Rattle.fed_setup.proofs.Reached.{Reached, size}
 use Rattle.fed_setup.proofs.script.run.Given as goal

@@ -24,7 +24,7 @@ loop-id-init c =
       within = omega arith;
       behind = all_from_zero c.into_iter-id-iterator.result;
       sorted = subst (λ (es : Entries). IsStrictlySortedBy nat_cmp (keys_of es)) (sym gives.0) gives.5;
-      made = ([], c.new-made.ensures (readers_in c.args.table.now), refl);
+      made = ([], c.requires, refl);
     }
 
 pub loop-id-preserved-then-place-len : goal.loop-id-preserved-then-place-len

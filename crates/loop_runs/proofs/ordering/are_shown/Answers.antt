@@ -1,6 +1,5 @@
 use Rattle.std.proofs.Common.{◌≡◌, Bool, true, All, Contains, IsTrue, if◌then◌else◌, [], map, sym, subst}
-use Rattle.fdw_api.specs.Scan.{KeyForm}
-use Rattle.fdw_api.specs.Wishes.{key_form}
+use Rattle.fdw_api.specs.Prelude.{KeyForm, key_form}
 use Rattle.loop_runs.proofs.ordering.are_shown.Goals as goal
 
 pub returns-then-level-2 : goal.returns-then-level-2

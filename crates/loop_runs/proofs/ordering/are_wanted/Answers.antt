@@ -1,8 +1,7 @@
 use Rattle.std.proofs.Common.{◌≡◌, false, Contains, IsTrue, length, map, refl, sym, subst, arith}
 use Rattle.std.proofs.lemmas.List.{get_or_default, get_or-map, length-map}
 use Rattle.std.proofs.lemmas.List.Elements.{AllWithin-more}
-use Rattle.fdw_api.specs.Scan.{KeyForm}
-use Rattle.fdw_api.specs.Wishes.{key_form}
+use Rattle.fdw_api.specs.Prelude.{KeyForm, key_form}
 use Rattle.fdw_api.specs.declared.wishes.OrderKey.{OrderKey}
 use Rattle.loop_runs.proofs.ordering.are_wanted.Goals as goal
 

@@ -1,12 +1,8 @@
 use Rattle.std.proofs.Common.{◌≡◌, List, map, refl, sym, subst}
 use Rattle.std.proofs.lemmas.Result.{err_from_is_err_and}
-use Rattle.med_syntax.specs.QueryTree.{StatementTree}
-use Rattle.med_syntax.specs.QueryView.{select_tree}
-use Rattle.bind_names.specs.Naming.{select_name_causes}
-use Rattle.bind_names.specs.Seen.{seen_entry}
-use Rattle.bind_names.specs.Telling.{TellsCause}
+use Rattle.med_syntax.specs.Prelude.{StatementTree, select_tree}
+use Rattle.bind_names.specs.Prelude.{select_name_causes, seen_entry, TellsCause, table_shape, query_entries}
 use Rattle.bind_names.specs.declared.table.TableView.{TableView}
-use Rattle.bind_names.specs.Scope.{table_shape, query_entries}
 use Rattle.med_catalog.specs.View.{objects}
 use Rattle.med_binder.specs.Looking.{IsLookedUp}
 use Rattle.med_binder.specs.Places.{attached}

@@ -2,8 +2,7 @@ use Rattle.std.proofs.Common.{◌≡◌, List, map, ap, sym, ◌∙◌}
 use Rattle.std.proofs.lemmas.Result.{err_from_is_err_and}
 use Rattle.med_syntax.specs.QueryView.{item_tree, select_tree}
 use Rattle.tri_expr.specs.Tree.{tree}
-use Rattle.bind_names.specs.Meaning.{Output, Sorting, sorting_of, output_values, keys_sorting}
-use Rattle.bind_names.specs.Scope.{table_shape, scope_of}
+use Rattle.bind_names.specs.Prelude.{Output, Sorting, sorting_of, output_values, keys_sorting, table_shape, scope_of}
 use Rattle.bind_query.specs.Resolving.{sorting_form}
 use Rattle.bind_query.specs.Shown.{output_of}
 use Rattle.med_binder.proofs.CoreSteps.{shown_same, head_items, head_order, order_clear, sorting_same, completed_is, first_told}

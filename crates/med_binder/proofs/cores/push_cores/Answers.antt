@@ -1,8 +1,7 @@
 use Rattle.std.proofs.Common.{◌<◌, ◌++◌, ◌∷◌, [], ◌∙◌, sym, length, map, flat_map, ap, arith}
 use Rattle.std.proofs.lemmas.Result.{err_from_is_err_and}
 use Rattle.med_syntax.specs.QueryView.{core_tree}
-use Rattle.bind_names.specs.Scope.{table_shape}
-use Rattle.bind_names.specs.Naming.{core_asked_causes}
+use Rattle.bind_names.specs.Prelude.{table_shape, core_asked_causes}
 use Rattle.bind_types.specs.Kinds.{types_in}
 use Rattle.bind_types.specs.Typing.{core_types}
 use Rattle.bind_query.specs.Resolving.{sorting_form}

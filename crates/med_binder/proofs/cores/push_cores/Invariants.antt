@@ -1,9 +1,7 @@
 use Rattle.std.proofs.Common.{◌≡◌, ◌++◌, map, flat_map, drop}
 use Rattle.med_syntax.specs.QueryView.{core_tree}
 use Rattle.med_query.specs.Form.{core_form}
-use Rattle.bind_names.specs.Scope.{table_shape}
-use Rattle.bind_names.specs.Naming.{core_asked_causes}
-use Rattle.bind_names.specs.Meaning.{cores_meant}
+use Rattle.bind_names.specs.Prelude.{table_shape, core_asked_causes, cores_meant}
 use Rattle.bind_types.specs.Kinds.{types_in}
 use Rattle.bind_types.specs.Typing.{core_types}
 use Rattle.bind_query.specs.Resolving.{sorting_form}

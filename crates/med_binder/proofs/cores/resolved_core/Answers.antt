@@ -3,8 +3,7 @@ use Rattle.std.proofs.lemmas.Result.{err_from_is_err_and}
 use Rattle.med_syntax.specs.declared.statement.Chain.{Chain}
 use Rattle.med_syntax.specs.QueryView.{item_tree, chain_tree, core_tree}
 use Rattle.tri_expr.specs.Tree.{tree}
-use Rattle.bind_names.specs.Meaning.{output_values, keys_sorting}
-use Rattle.bind_names.specs.Scope.{table_shape, scope_of, from_scope}
+use Rattle.bind_names.specs.Prelude.{output_values, keys_sorting, table_shape, scope_of, from_scope}
 use Rattle.bind_query.specs.Resolving.{sorting_form}
 use Rattle.med_binder.proofs.CoreSteps.{shown_same, item_told, core_told, completed_is}
 use Rattle.med_binder.proofs.cores.resolved_core.Goals as goal

@@ -1,10 +1,8 @@
 use Rattle.std.proofs.Common.{◌<◌, ◌++◌, ◌∷◌, [], ◌∙◌, sym, length, map, flat_map, ap, subst, All, arith}
 use Rattle.std.proofs.lemmas.List.{map-append}
 use Rattle.std.proofs.lemmas.Result.{err_from_is_err_and}
-use Rattle.bind_names.specs.Scope.{table_shape, entry_place}
-use Rattle.bind_names.specs.Naming.{entry_causes}
+use Rattle.bind_names.specs.Prelude.{table_shape, entry_place, entry_causes, seen_entry}
 use Rattle.med_binder.specs.Binding.{IsEntryOf}
-use Rattle.bind_names.specs.Seen.{seen_entry}
 use Rattle.med_binder.specs.declared.bound.BoundEntry.{BoundEntry}
 use Rattle.bind_names.proofs.Causes.{tells_first, next_causes}
 use Rattle.bind_names.proofs.Added.{added_after}

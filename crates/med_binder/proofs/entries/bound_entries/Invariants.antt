@@ -1,8 +1,6 @@
 use Rattle.std.proofs.Common.{◌≡◌, ◌++◌, map, drop, flat_map, All}
-use Rattle.bind_names.specs.Scope.{table_shape, entry_place}
-use Rattle.bind_names.specs.Naming.{entry_causes}
+use Rattle.bind_names.specs.Prelude.{table_shape, entry_place, entry_causes, seen_entry}
 use Rattle.med_binder.specs.Binding.{IsEntryOf}
-use Rattle.bind_names.specs.Seen.{seen_entry}
 use Rattle.med_binder.specs.declared.bound.BoundEntry.{BoundEntry}
 use Rattle.med_binder.proofs.entries.bound_entries.Given as goal
 

@@ -3,12 +3,10 @@ use Rattle.std.proofs.lemmas.List.{length-map}
 use Rattle.std.proofs.lemmas.Option.{slice_get-map, slice_get-get_or}
 use Rattle.med_value.specs.Column.{column_of}
 use Rattle.med_syntax.specs.QueryView.{entry_tree}
-use Rattle.bind_names.specs.Scope.{TableShape, place_named}
-use Rattle.bind_names.specs.Naming.{entry_causes}
+use Rattle.bind_names.specs.Prelude.{TableShape, place_named, entry_causes}
 use Rattle.bind_names.proofs.Causes.{tells_one}
 use Rattle.med_binder.proofs.EntrySteps.{entry_placed}
-use Rattle.med_catalog.specs.Objects.{table_named}
-use Rattle.med_catalog.specs.View.{objects, table_of}
+use Rattle.med_catalog.specs.Prelude.{table_named, objects, table_of}
 use Rattle.med_binder.specs.Tables.{shapes}
 use Rattle.med_binder.specs.Places.{attached}
 use Rattle.med_binder.proofs.Rows.{causes_missing, causes_there, columns_there, place_found, within_by}

@@ -2,9 +2,7 @@ use Rattle.std.proofs.Common.{◌<◌, ◌∷◌, [], ◌∙◌, List, Some, len
 use Rattle.std.proofs.lemmas.List.{map-append}
 use Rattle.std.proofs.lemmas.Result.{err_from_is_err_and}
 use Rattle.med_syntax.specs.QueryTree.{EntryTree}
-use Rattle.bind_names.specs.Scope.{table_shape, entry_place, entry_columns}
-use Rattle.bind_names.specs.Naming.{entry_causes}
-use Rattle.bind_names.specs.Seen.{seen_entry}
+use Rattle.bind_names.specs.Prelude.{table_shape, entry_place, entry_columns, entry_causes, seen_entry}
 use Rattle.bind_names.specs.declared.table.TableView.{TableView}
 use Rattle.bind_names.proofs.Causes.{tells_first, next_causes}
 use Rattle.bind_names.proofs.Parts.{drop_read}

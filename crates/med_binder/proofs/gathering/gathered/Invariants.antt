@@ -1,8 +1,6 @@
 use Rattle.std.proofs.Common.{◌≡◌, ◌++◌, Some, length, map, drop, flat_map}
 use Rattle.med_syntax.specs.QueryTree.{EntryTree}
-use Rattle.bind_names.specs.Scope.{table_shape, entry_place, entry_columns}
-use Rattle.bind_names.specs.Naming.{entry_causes}
-use Rattle.bind_names.specs.Seen.{seen_entry}
+use Rattle.bind_names.specs.Prelude.{table_shape, entry_place, entry_columns, entry_causes, seen_entry}
 use Rattle.bind_names.specs.declared.table.TableView.{TableView}
 use Rattle.med_binder.specs.declared.bound.BoundEntry.{BoundEntry}
 use Rattle.med_binder.specs.Place as offered

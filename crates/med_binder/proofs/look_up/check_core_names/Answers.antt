@@ -2,8 +2,7 @@ use Rattle.std.proofs.Common.{List, map, ap, subst, ◌∙◌}
 use Rattle.med_value.specs.declared.cause.Cause.{Cause}
 use Rattle.med_syntax.specs.declared.statement.Chain.{Chain}
 use Rattle.med_syntax.specs.QueryView.{chain_tree, core_tree}
-use Rattle.bind_names.specs.Scope.{table_shape, from_scope}
-use Rattle.bind_names.specs.Telling.{Passes}
+use Rattle.bind_names.specs.Prelude.{table_shape, from_scope, Passes}
 use Rattle.med_binder.proofs.LookSteps.{alias_same}
 use Rattle.med_binder.proofs.look_up.check_core_names.Goals as goal
 

@@ -2,9 +2,7 @@ use Rattle.std.proofs.Common.{◌+◌, ◌∷◌, List, length, map, flat_map, a
 use Rattle.std.proofs.lemmas.Result.{err_from_is_err_and}
 use Rattle.med_syntax.specs.declared.statement.Chain.{Chain}
 use Rattle.med_syntax.specs.QueryView.{chain_tree, core_tree, key_tree, select_tree}
-use Rattle.bind_names.specs.Meaning.{key_direction, sorting_of, core_meant, cores_meant}
-use Rattle.bind_names.specs.Naming.{core_alias_causes, core_asked_causes}
-use Rattle.bind_names.specs.Scope.{table_shape, scope_of, entries_of, from_scope}
+use Rattle.bind_names.specs.Prelude.{key_direction, sorting_of, core_meant, cores_meant, core_alias_causes, core_asked_causes, table_shape, scope_of, entries_of, from_scope}
 use Rattle.bind_names.proofs.Causes.{tells_left, tells_right, tells_same, none_of_two}
 use Rattle.bind_query.specs.Resolving.{sorting_form}
 use Rattle.bind_types.specs.Typing.{core_types}

@@ -1,8 +1,7 @@
 use Rattle.std.proofs.Common.{map}
 use Rattle.std.proofs.lemmas.Result.{err_from_is_err_and}
 use Rattle.med_syntax.specs.QueryView.{select_tree}
-use Rattle.bind_names.specs.Scope.{table_shape}
-use Rattle.bind_names.specs.Naming.{select_name_causes}
+use Rattle.bind_names.specs.Prelude.{table_shape, select_name_causes}
 use Rattle.bind_types.specs.Typing.{select_type_causes}
 use Rattle.med_binder.proofs.Binds.{own_entries, types_then}
 use Rattle.med_binder.proofs.query_binding.bind_known.Goals as goal

@@ -1,8 +1,7 @@
 use Rattle.std.proofs.Common.{◌≡◌, map, drop, flat_map}
 use Rattle.med_syntax.specs.QueryTree.{EntryTree}
 use Rattle.bind_names.specs.Seen.{seen_entry}
-use Rattle.med_catalog.specs.Objects.{table_named}
-use Rattle.med_catalog.specs.View.{objects}
+use Rattle.med_catalog.specs.Prelude.{table_named, objects}
 use Rattle.med_binder.specs.Barred.{table_causes, reading_causes}
 use Rattle.med_binder.proofs.rights.check_rights.Given as goal
 

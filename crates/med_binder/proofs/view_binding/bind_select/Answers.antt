@@ -1,10 +1,7 @@
 use Rattle.std.proofs.Common.{map, flat_map, ap, sym, ◌∙◌}
 use Rattle.std.proofs.lemmas.Result.{err_from_is_err_and}
 use Rattle.med_syntax.specs.QueryView.{select_tree}
-use Rattle.bind_names.specs.Meaning.{meant_in}
-use Rattle.bind_names.specs.Naming.{entry_causes, select_name_causes}
-use Rattle.bind_names.specs.Scope.{table_shape, entry_place}
-use Rattle.bind_names.specs.Seen.{seen_entry}
+use Rattle.bind_names.specs.Prelude.{meant_in, entry_causes, select_name_causes, table_shape, entry_place, seen_entry}
 use Rattle.bind_types.specs.Typing.{select_type_causes}
 use Rattle.med_binder.specs.Binding.{IsEntryOf}
 use Rattle.med_binder.proofs.Binds.{names_first, binds_over, entries_over}

@@ -1,9 +1,7 @@
 use Rattle.std.proofs.Common.{◌≡◌, map, sym, subst, IfOk}
 use Rattle.med_syntax.specs.QueryTree.{StatementTree}
-use Rattle.bind_names.specs.Scope.{table_shape}
-use Rattle.bind_names.specs.Naming.{statement_name_causes}
+use Rattle.bind_names.specs.Prelude.{table_shape, statement_name_causes, meant}
 use Rattle.bind_types.specs.Typing.{statement_type_causes}
-use Rattle.bind_names.specs.Meaning.{meant}
 use Rattle.med_binder.specs.Binding.{bound_kinds, kinds_of_answer}
 use Rattle.med_binder.specs.Turns.{Binds}
 use Rattle.med_binder.proofs.view_binding.bind_statement.Goals as goal

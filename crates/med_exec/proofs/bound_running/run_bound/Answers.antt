@@ -1,9 +1,8 @@
 use Rattle.std.proofs.Common.{map, inl, refl}
 use Rattle.med_value.specs.Datum.{tuple}
 use Rattle.med_exec.proofs.Served.{all_served}
-use Rattle.scan_loops.specs.Slots.{states}
+use Rattle.scan_loops.specs.Prelude.{states, scans_in}
 use Rattle.med_exec.proofs.Words.{run_answers, run_pulls, run_stops, ok_on, err_on}
-use Rattle.scan_loops.specs.Counting.{scans_in}
 use Rattle.scan_loops.proofs.CountLemmas.{none_at_most}
 use Rattle.loop_runs.specs.Running.{plan_levels}
 use Rattle.med_exec.specs.BoundCounting.{scans_of}

@@ -6,8 +6,7 @@ use Rattle.med_binder.specs.Place.{entry_place}
 use Rattle.med_exec.specs.Rests.{Rests}
 use Rattle.med_exec.specs.Running.{Held, ServesRun, none_held}
 use Rattle.med_exec.proofs.Served.{all_served}
-use Rattle.scan_loops.specs.Counting.{scans_in}
-use Rattle.scan_loops.specs.Slots.{states}
+use Rattle.scan_loops.specs.Prelude.{scans_in, states, IsBareRun}
 use Rattle.scan_loops.specs.declared.levels.LoopLevel.{LoopLevel}
 use Rattle.scan_loops.proofs.CountLemmas.{none_at_most}
 use Rattle.loop_runs.specs.Running.{plan_levels, loops_stop}
@@ -16,7 +15,6 @@ use Rattle.med_exec.proofs.Beginning.{begun, held_begun, stream_holds, levels_pl
 use Rattle.med_exec.proofs.Counts.{begins_told, at_most_told}
 use Rattle.med_exec.proofs.Words.{run_answers, run_pulls, run_stops}
 use Rattle.loop_runs.specs.Gathering.{levels_in}
-use Rattle.scan_loops.specs.Pulling.{IsBareRun}
 use Rattle.med_exec.proofs.Bare.{shows_all, has_entry}
 use Rattle.med_exec.proofs.Opening.{stream_opens}
 use Rattle.med_exec.proofs.Plain.{unordered}

@@ -1,6 +1,5 @@
 use Rattle.std.proofs.Common.{map}
-use Rattle.fdw_api.specs.State.{scan_of}
-use Rattle.fdw_api.specs.Calls.{row_of}
+use Rattle.fdw_api.specs.Prelude.{scan_of, row_of}
 use Rattle.med_exec.proofs.ScanLemmas.{left_of}
 use Rattle.med_exec.proofs.RowScans.{HasRows}
 use Rattle.med_exec.proofs.reading.read_rows.Given as goal

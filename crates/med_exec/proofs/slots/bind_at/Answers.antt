@@ -1,6 +1,5 @@
 use Rattle.std.proofs.Common.{map}
-use Rattle.fdw_api.specs.Calls.{Binds, RefusesBind}
-use Rattle.fdw_api.specs.Kinds.{column_of, option_form}
+use Rattle.fdw_api.specs.Prelude.{Binds, RefusesBind, column_of, option_form}
 use Rattle.med_exec.proofs.SlotLemmas.{read_at, ok_changes, err_changes}
 use Rattle.med_exec.proofs.slots.bind_at.Goals as goal
 

@@ -4,8 +4,7 @@ use Rattle.std.proofs.lemmas.Iterator.{IsFirst-from_position, YieldsList-from_sl
 use Rattle.std.proofs.lemmas.Slice.Eq.{bytes_eq-Decides}
 use Rattle.std.proofs.lemmas.Option.{slice_get-map, get_or_from_slice_get, slice_get_within}
 use Rattle.med_session.specs.Shows.{label}
-use Rattle.med_world.specs.Engine.{Label, IsNamedAt}
-use Rattle.med_world.specs.Adding.{HasSource}
+use Rattle.med_world.specs.Prelude.{Label, IsNamedAt, HasSource}
 use Rattle.med_session.specs.declared.sources.NamedSource.{NamedSource}
 use Rattle.med_session.proofs.AddingLists.{within_some}
 use Rattle.med_session.proofs.adding.place_of_source.Goals as goal

@@ -1,16 +1,14 @@
 use Rattle.std.proofs.Common.{◌≡◌, ◌<◌, length, slice_get, List, map, string_bytes, ap, subst, arith, ◌∙◌}
 use Rattle.fdw_api.specs.declared.interface.Fault.{Fault}
-use Rattle.med_exec.specs.Running.{ServesRun, Breaks, wants_memory, box_breaks, none_held}
+use Rattle.med_exec.specs.Prelude.{ServesRun, Breaks, wants_memory, box_breaks, none_held, states}
 use Rattle.med_exec.specs.Rests.{held}
 use Rattle.med_exec.specs.declared.running.Run.{Run}
 use Rattle.std.proofs.lemmas.Grind.{common_steps}
-use Rattle.med_exec.specs.Slots.{states}
-use Rattle.med_world.specs.Turning.{later, having_asked}
+use Rattle.med_world.specs.Prelude.{later, having_asked, Opened, opened, opened_named, seated}
 use Rattle.med_world.specs.Fetching.{GivesNone, no_memory, box_fails, cause_of}
 use Rattle.med_world.proofs.Pulled.{pulls_ended}
 use Rattle.med_syntax.specs.CursorView.{count_tree}
 use Rattle.med_world.specs.declared.cursors.OpenCursor.{OpenCursor}
-use Rattle.med_world.specs.Open.{Opened, opened, opened_named, seated}
 use Rattle.med_session.specs.Cursors.{having}
 use Rattle.med_session.proofs.CursorLists.{same_at, place_within, named_there, runs_there, gone_there}
 use Rattle.med_session.proofs.cursors.fetch_rows.Goals as goal

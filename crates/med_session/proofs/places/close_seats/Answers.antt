@@ -1,7 +1,6 @@
 use Rattle.std.proofs.Common.{◌≡◌, ◌∙◌, ◌<◌, List, Option, None, length, replicate, slice_set, sym, subst, arith}
 use Rattle.std.proofs.lemmas.Grind.{common_steps}
-use Rattle.med_exec.specs.Running.{Held, ServesRun}
-use Rattle.med_exec.specs.Slots.{states}
+use Rattle.med_exec.specs.Prelude.{Held, ServesRun, states}
 use Rattle.med_value.specs.Limits.{session_count}
 use Rattle.med_world.specs.Open.{Seated, seated, seats_shown, held_by, AreHeld, AreOwn, all_cursors}
 use Rattle.med_session.proofs.CursorLists.{next_closed}

@@ -1,6 +1,5 @@
 use Rattle.std.proofs.Common.{◌≡◌, None, replicate, take, vec_len}
-use Rattle.med_exec.specs.Running.{ServesRun}
-use Rattle.med_exec.specs.Slots.{states}
+use Rattle.med_exec.specs.Prelude.{ServesRun, states}
 use Rattle.med_value.specs.Limits.{session_count}
 use Rattle.med_world.specs.Open.{seats_shown, held_by, AreHeld, AreOwn, all_cursors}
 use Rattle.med_session.proofs.places.close_seats.Given as goal

@@ -1,7 +1,6 @@
 use Rattle.std.proofs.Common.{◌≡◌, map, drop}
 use Rattle.std.specs.List.{list_any}
-use Rattle.tri_expr.specs.Tree.{tree}
-use Rattle.tri_expr.specs.TreeParts.{is_risky_tree}
+use Rattle.tri_expr.specs.Prelude.{tree, is_risky_tree}
 use Rattle.med_statements.proofs.risk.some_risky.Given as goal
 
 abbrev pub invariant-loop-expression : goal.invariant-loop-expression

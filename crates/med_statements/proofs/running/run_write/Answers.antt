@@ -1,12 +1,10 @@
 use Rattle.std.proofs.Common.{◌≡◌, ◌∙◌, true, false, List, [], Option, Some, None, map, refl, sym, subst}
 use Rattle.med_value.specs.Datum.{tuple}
 use Rattle.med_query.specs.Form.{form_of}
-use Rattle.med_syntax.specs.WriteTree.{WriteTree}
-use Rattle.med_syntax.specs.WriteView.{write_tree}
+use Rattle.med_syntax.specs.Prelude.{WriteTree, write_tree}
 use Rattle.med_binder.specs.declared.bound.BoundQuery.{BoundQuery}
 use Rattle.med_exec.specs.Slots.{states}
-use Rattle.med_catalog.specs.Objects.{Objects}
-use Rattle.med_catalog.specs.View.{objects}
+use Rattle.med_catalog.specs.Prelude.{Objects, objects}
 use Rattle.med_binder.specs.Places.{Attached, attached}
 use Rattle.bind_write.specs.Binding.{IsQueryOf}
 use Rattle.med_exec.specs.BoundRunning.{IsReady as IsBoundReady}

@@ -3,9 +3,7 @@ use Rattle.med_value.specs.Datum.{tuple}
 use Rattle.med_query.specs.Query.{Query}
 use Rattle.med_exec.specs.Slots.{states}
 use Rattle.med_binder.specs.Place.{entry_place}
-use Rattle.med_world.specs.Selecting.{AnswersOver}
-use Rattle.med_world.specs.Starting.{RunFails}
-use Rattle.med_world.specs.Fetching.{cause_of}
+use Rattle.med_world.specs.Prelude.{AnswersOver, RunFails, cause_of}
 use Rattle.med_query.specs.Select.{query_of as written_query}
 use Rattle.med_statements.proofs.Selections.{query_bound, steady, answers_over, fails_over}
 use Rattle.med_statements.proofs.selecting.run_query.Goals as goal

@@ -2,13 +2,11 @@ use Rattle.std.proofs.Common.{◌≡◌, ◌∙◌, true, false, refl, sym, map}
 use Rattle.std.proofs.lemmas.Result.{err_from_is_err_and}
 use Rattle.med_value.specs.Datum.{tuple}
 use Rattle.med_query.specs.Form.{form_of}
-use Rattle.med_exec.specs.Slots.{states}
+use Rattle.med_exec.specs.Prelude.{states, IsReady}
 use Rattle.med_syntax.specs.QueryView.{statement_tree}
 use Rattle.med_catalog.specs.View.{objects}
-use Rattle.med_binder.specs.Looked.{query_in}
-use Rattle.med_binder.specs.Places.{attached}
+use Rattle.med_binder.specs.Prelude.{query_in, attached}
 use Rattle.med_world.specs.Selecting.{not_bound}
-use Rattle.med_exec.specs.BoundRunning.{IsReady}
 use Rattle.sql_meaning.specs.Sizes.{is_large_form}
 use Rattle.med_statements.specs.Ready.{IsBoundAs}
 use Rattle.med_statements.proofs.Ready.{bound_as}

@@ -1,6 +1,5 @@
 use Rattle.std.proofs.Common.{map, length}
-use Rattle.med_exec.specs.Slots.{states}
-use Rattle.med_exec.specs.Running.{ServesRun}
+use Rattle.med_exec.specs.Prelude.{states, ServesRun}
 use Rattle.med_world.specs.Open.{opened, held_by, AreHeld, AreOwn}
 use Rattle.med_world.proofs.fetching.close_all.Given as goal
 

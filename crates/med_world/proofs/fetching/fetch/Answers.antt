@@ -3,13 +3,10 @@ use Rattle.std.proofs.lemmas.Grind.{common_steps}
 use Rattle.med_value.specs.Datum.{tuple}
 use Rattle.med_value.specs.declared.value.Row.{Row}
 use Rattle.med_syntax.specs.CursorView.{count_tree}
-use Rattle.med_exec.specs.Slots.{states}
-use Rattle.scan_loops.specs.Counting.{none_in}
-use Rattle.med_exec.specs.Running.{GivesNext, EndsAt}
-use Rattle.med_exec.specs.Pulling.{levels_in}
-use Rattle.scan_loops.specs.Running.{HonestFor}
-use Rattle.scan_loops.specs.declared.levels.LoopLevel.{LoopLevel}
+use Rattle.med_exec.specs.Prelude.{states, GivesNext, EndsAt, levels_in}
 use Rattle.med_exec.specs.Rests.{Rests, held}
+use Rattle.scan_loops.specs.Prelude.{none_in, HonestFor}
+use Rattle.scan_loops.specs.declared.levels.LoopLevel.{LoopLevel}
 use Rattle.med_world.specs.Fetching.{has_enough, IsWithin, PullsFor, counted as counted_to}
 use Rattle.med_exec.proofs.Counted.{begins_none}
 use Rattle.med_world.proofs.KeptCursors.{tables_itself, tables_on}

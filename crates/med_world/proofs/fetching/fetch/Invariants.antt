@@ -1,16 +1,11 @@
 use Rattle.std.proofs.Common.{◌≡◌, length}
 use Rattle.med_syntax.specs.CursorView.{count_tree}
-use Rattle.med_exec.specs.Slots.{states}
-use Rattle.med_exec.specs.Counting.{BeginsScans}
-use Rattle.med_exec.specs.Running.{ServesRun}
-use Rattle.med_exec.specs.Pulling.{levels_in}
-use Rattle.scan_loops.specs.Running.{HonestFor}
+use Rattle.med_exec.specs.Prelude.{states, BeginsScans, ServesRun, levels_in, KeepTables}
 use Rattle.med_exec.specs.Rests.{rows_to_come, held, IsRunning}
-use Rattle.med_exec.specs.Leaving.{KeepTables}
+use Rattle.scan_loops.specs.Prelude.{HonestFor, none_in}
 use Rattle.med_world.specs.Fetching.{IsWithin, PullsFor, counted}
 use Rattle.med_world.proofs.Rows.{HasGiven}
 use Rattle.med_world.proofs.fetching.fetch.Given as goal
-use Rattle.scan_loops.specs.Counting.{none_in}
 
 abbrev pub invariant-loop-alloc : goal.invariant-loop-alloc
 invariant-loop-alloc g l =

@@ -1,6 +1,5 @@
 use Rattle.std.proofs.Common.{[], map, ap, ◌∙◌}
-use Rattle.tri_expr.specs.Tree.{tree}
-use Rattle.tri_expr.specs.Meaning.{means}
+use Rattle.tri_expr.specs.Prelude.{tree, means}
 use Rattle.med_query.proofs.Telling.{if_ok_then}
 use Rattle.fdw_api.specs.Calls.{row_of}
 use Rattle.med_write.specs.Form.{change_of}

@@ -1,6 +1,5 @@
 use Rattle.std.proofs.Common.{◌≡◌, map, take}
-use Rattle.fdw_api.specs.Kinds.{Deletes}
-use Rattle.fdw_api.specs.Calls.{row_of}
+use Rattle.fdw_api.specs.Prelude.{Deletes, row_of}
 use Rattle.med_write.specs.Form.{change_of}
 use Rattle.med_write.proofs.making.deletes.Given as goal
 

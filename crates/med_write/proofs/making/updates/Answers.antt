@@ -1,9 +1,7 @@
 use Rattle.std.proofs.Common.{map, option_map, arith}
 use Rattle.med_value.specs.Datum.{Tuple, tuple}
 use Rattle.tri_expr.specs.Tree.{tree}
-use Rattle.fdw_api.specs.Kinds.{Updates}
-use Rattle.fdw_api.specs.Scan.{GivenRow}
-use Rattle.fdw_api.specs.Calls.{row_of}
+use Rattle.fdw_api.specs.Prelude.{Updates, GivenRow, row_of}
 use Rattle.med_write.specs.Form.{change_of}
 use Rattle.med_write.specs.Writing.{row_made}
 use Rattle.med_write.proofs.RowSteps.{makes_more, fault_seen}

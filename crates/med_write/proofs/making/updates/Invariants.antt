@@ -1,7 +1,6 @@
 use Rattle.std.proofs.Common.{map, take, option_map}
 use Rattle.tri_expr.specs.Tree.{tree}
-use Rattle.fdw_api.specs.Kinds.{Updates}
-use Rattle.fdw_api.specs.Calls.{row_of}
+use Rattle.fdw_api.specs.Prelude.{Updates, row_of}
 use Rattle.med_write.specs.Form.{change_of}
 use Rattle.med_write.specs.Writing.{row_made}
 use Rattle.med_write.specs.Making.{Makes}

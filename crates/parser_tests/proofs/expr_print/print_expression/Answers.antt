@@ -1,8 +1,7 @@
 use Rattle.std.proofs.Common.{arith, List, ℕ, ◌≡◌, ◌∷◌, ap, sym, subst, length}
 use Rattle.std.specs.String.{string_bytes}
-use Rattle.med_syntax.specs.ExprGrammar.{HasExpr}
+use Rattle.med_syntax.specs.Prelude.{HasExpr, expr_tree}
 use Rattle.expr_writer.specs.ExprPrinting.{printed_expr}
-use Rattle.med_syntax.specs.ExprView.{expr_tree}
 use Rattle.expr_writer.proofs.ExprPrints.{spaced, removed}
 use Rattle.parser_tests.proofs.expr_print.print_expression.Goals as goal
 

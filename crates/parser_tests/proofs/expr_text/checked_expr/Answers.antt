@@ -1,7 +1,6 @@
 use Rattle.std.proofs.Common.{◌≡◌, true, false, sym, ◌∙◌, inl, inr}
 use Rattle.std.proofs.lemmas.Result.{err_from_is_err_and}
-use Rattle.med_syntax.specs.View.{shapes_of}
-use Rattle.med_syntax.specs.ExprView.{expr_tree}
+use Rattle.med_syntax.specs.Prelude.{shapes_of, expr_tree}
 use Rattle.med_syntax.proofs.TokenShapes.{short_names}
 use Rattle.med_syntax.proofs.TokenNumbers.{huge, readable}
 use Rattle.parser_tests.proofs.ExprParsed.{told, told_refused, read_expr, no_cause}

@@ -1,9 +1,10 @@
-use Rattle.std.proofs.Common.{◌<◌, ◌∙◌, Option, subst, map, arith, length, rules}
+use Rattle.std.proofs.Common.{◌<◌, ◌≤◌, ◌∙◌, Option, ap, subst, map, arith, length, rules}
 use Rattle.med_value.specs.Datum.{datum}
 use Rattle.med_value.specs.declared.value.Row.{Row}
-use Rattle.fdw_api.specs.Scan.{spec_of}
+use Rattle.fdw_api.specs.Scan.{spec_of, given_row}
 use Rattle.place_wrapper.specs.Forms.{GivesAt}
 use Rattle.place_wrapper.proofs.Rows.{given_here, skipped_here}
+use Rattle.place_wrapper.proofs.Rises.{past_end}
 use Rattle.place_wrapper.proofs.scans.next_row.Goals as goal
 
 pub returns-in-Some-clause-next : goal.returns-in-Some-clause-next
@@ -13,10 +14,12 @@ returns-in-Some-clause-next g c =
     let spec = spec_of c.args.scan.now.spec in
     let params = map datum c.args.scan.now.params.items in
     let at = c.loop-at.at in
-    let lt : at < length (F.rows t) = let a = c.loop-at-test.true in let b = c.count.ensures in omega arith in
+    let lt : at < length (F.rows t) = let a = c.loop-at-test.true in let b = c.requires.3.1 in omega arith in
+    let bound = c.end_of-end.type_inv in
+    let test = c.loop-at-test.true in
     let gives : GivesAt F t spec params at c.in_ok-cells.field-0 = search rules in (
       c.loop-at.invariant.past,
-      search rules,
+      omega arith,
       given_here F t spec params c.args.scan.now.at at c.in-Some.cells lt c.loop-at.invariant.same (subst (λ (o : Option Row). GivesAt F t spec params at o) c.in-Some.is gives),
     )
 
@@ -27,7 +30,7 @@ loop-at-preserved g c =
     let spec = spec_of c.args.scan.now.spec in
     let params = map datum c.args.scan.now.params.items in
     let at = c.loop-at.at in
-    let lt : at < length (F.rows t) = let a = c.loop-at-test.true in let b = c.count.ensures in omega arith in
+    let lt : at < length (F.rows t) = let a = c.loop-at-test.true in let b = c.requires.3.1 in omega arith in
     let gives : GivesAt F t spec params at c.in_ok-cells.field-0 = search rules in
     let w = c.place_from-at-in-loop-at.ensures in
     record {
@@ -37,10 +40,25 @@ loop-at-preserved g c =
     }
 
 pub returns-in-Some-clause-on : goal.returns-in-Some-clause-on
-returns-in-Some-clause-on g c = c.loop-at.invariant.on (let a = c.loop-at-test.true in let b = c.count.ensures in omega arith)
+returns-in-Some-clause-on g c = c.loop-at.invariant.on (let a = c.loop-at-test.true in let b = c.requires.3.1 in omega arith)
 
 pub place_from-at-requires-in-loop-at-clause-stands : goal.place_from-at-requires-in-loop-at-clause-stands
-place_from-at-requires-in-loop-at-clause-stands g c = c.loop-at.invariant.on (let a = c.loop-at-test.true in let b = c.count.ensures in omega arith)
+place_from-at-requires-in-loop-at-clause-stands g c = c.loop-at.invariant.on (let a = c.loop-at-test.true in let b = c.requires.3.1 in omega arith)
 
 pub row_at-requires-clause-stands : goal.row_at-requires-clause-stands
-row_at-requires-clause-stands g c = c.loop-at.invariant.on (let a = c.loop-at-test.true in let b = c.count.ensures in omega arith)
+row_at-requires-clause-stands g c = c.loop-at.invariant.on (let a = c.loop-at-test.true in let b = c.requires.3.1 in omega arith)
+
+pub overflow_add-at : goal.overflow_add-at
+overflow_add-at g c =
+    let bound = c.end_of-end.type_inv in
+    let test = c.loop-at-test.true in
+    omega arith
+
+pub returns-clause-next : goal.returns-clause-next
+returns-clause-next g c =
+    let F = g.T.PlacedTable.form in
+    let t = c.args.table.now in
+    let spec = spec_of c.args.scan.now.spec in
+    let params = map datum c.args.scan.now.params.items in
+    let past : c.args.scan.now.end ≤ c.loop-at.at = let no = c.loop-at-test.false in omega arith in
+    ap (map (given_row spec)) c.loop-at.invariant.same ∙ past_end F t spec params c.args.scan.now.end c.loop-at.at past c.requires.3.0

@@ -1,6 +1,5 @@
 use Rattle.std.proofs.Common.{map}
-use Rattle.fdw_api.specs.State.{scan_of}
-use Rattle.fdw_api.specs.Calls.{row_of}
+use Rattle.fdw_api.specs.Prelude.{scan_of, row_of}
 use Rattle.probe_wrapper.proofs.ShuffledReads.{HasRead, left_in}
 use Rattle.probe_wrapper.proofs.shuffled.read_out.Given as goal
 

@@ -4,8 +4,7 @@ use borrow.Author.Tests.{eqb-true}
 use Rattle.std.specs.List.{list_any}
 use Rattle.indexmap.specs.IndexSet.{insert_key}
 use Rattle.med_value.specs.Datum.{tuple}
-use Rattle.med_query.specs.Lists.{tuple_eq}
-use Rattle.med_query.specs.Query.{key_of}
+use Rattle.med_query.specs.Prelude.{tuple_eq, key_of}
 use Rattle.med_query.proofs.Telling.{if_ok_then}
 use Rattle.query_answer.specs.Keys.{key_in, number_in}
 use Rattle.query_answer.specs.Running.{runnings_in}

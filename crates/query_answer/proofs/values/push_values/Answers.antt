@@ -1,7 +1,6 @@
 use Rattle.std.proofs.Common.{◌≡◌, rules, arith, map, refl}
 use Rattle.med_value.specs.Datum.{datum, tuple}
-use Rattle.tri_expr.specs.Meaning.{meaning}
-use Rattle.tri_expr.specs.Outcome.{Is}
+use Rattle.tri_expr.specs.Prelude.{meaning, Is}
 use Rattle.query_answer.proofs.Evaluated.{part_quiet, part_tells, part_value}
 use Rattle.query_answer.proofs.values.push_values.Goals as goal
 

@@ -1,7 +1,6 @@
 use Rattle.std.proofs.Common.{◌≡◌, ◌++◌, map, take, []}
 use Rattle.med_value.specs.Datum.{datum, tuple}
-use Rattle.tri_expr.specs.Outcome.{over, value_of}
-use Rattle.tri_expr.specs.Verdict.{fault_list}
+use Rattle.tri_expr.specs.Prelude.{over, value_of, fault_list}
 use Rattle.med_query.specs.Query.{senses}
 use Rattle.query_answer.proofs.values.push_values.Given as goal
 

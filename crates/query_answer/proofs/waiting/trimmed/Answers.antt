@@ -2,8 +2,7 @@ use Rattle.std.proofs.Common.{List, map, is_lt, subst}
 use Rattle.std.specs.Cmp.{IsStrictWeakOrder}
 use Rattle.std.proofs.lemmas.List.Sorted.{ranks_by}
 use Rattle.itertools.specs.Extremes.{IsKLeast}
-use Rattle.med_query.specs.Form.{direction_of}
-use Rattle.med_query.specs.Query.{Output}
+use Rattle.med_query.specs.Prelude.{direction_of, Output}
 use Rattle.med_query.specs.declared.select.SortDirection.{SortDirection}
 use Rattle.med_query.proofs.Telling.{if_ok_then}
 use Rattle.query_answer.specs.Ordering.{output_cmp, staged_cmp}

@@ -2,10 +2,8 @@ use Rattle.std.proofs.Common.{ap, ◌∙◌, List, [], ◌∷◌, ◌++◌, Bor,
 use Rattle.std.proofs.lemmas.Result.{err_from_is_err_and}
 use Rattle.med_syntax.specs.declared.statement.GroupColumn.{GroupColumn}
 use Rattle.med_syntax.specs.declared.symbols.Symbol.{Symbol}
-use Rattle.med_syntax.specs.SymbolView.{terminals_of}
-use Rattle.med_syntax.specs.QueryGrammar.{SpellsGroup}
+use Rattle.med_syntax.specs.Prelude.{terminals_of, SpellsGroup, group_tree}
 use Rattle.query_reader.specs.QueryReading.{group_of}
-use Rattle.med_syntax.specs.QueryView.{group_tree}
 use Rattle.query_reader.proofs.QueryLoop.{list_start, list_end, list_failed, list_unstarted, parts_more, parts_shorter}
 use Rattle.query_reader.proofs.PartSound.{flat}
 use Rattle.query_reader.proofs.ClauseSound.{group_sound}

@@ -1,7 +1,6 @@
 use Rattle.std.proofs.Common.{length, map}
-use Rattle.med_syntax.specs.SymbolView.{terminals_of}
+use Rattle.med_syntax.specs.Prelude.{terminals_of, group_tree}
 use Rattle.query_reader.specs.QueryReading.{group_of}
-use Rattle.med_syntax.specs.QueryView.{group_tree}
 use Rattle.query_reader.proofs.QueryLoop.{ListLoop}
 use Rattle.query_reader.proofs.query_keys.group_list.Given as goal
 

@@ -2,11 +2,8 @@ use Rattle.std.proofs.Common.{ap, ◌∙◌, List, [], ◌∷◌, ◌++◌, Bor,
 use Rattle.std.proofs.lemmas.Result.{err_from_is_err_and}
 use Rattle.med_syntax.specs.declared.statement.Chain.{Chain}
 use Rattle.med_syntax.specs.declared.symbols.Symbol.{Symbol}
-use Rattle.med_syntax.specs.SymbolView.{terminals_of}
-use Rattle.med_syntax.specs.QueryGrammar.{SpellsChain}
+use Rattle.med_syntax.specs.Prelude.{terminals_of, SpellsChain, chain_height, chain_tree}
 use Rattle.query_reader.specs.QueryReading.{source_of}
-use Rattle.med_syntax.specs.QueryTree.{chain_height}
-use Rattle.med_syntax.specs.QueryView.{chain_tree}
 use Rattle.query_reader.proofs.QueryLoop.{list_start, list_end, list_failed, list_unstarted, parts_more, parts_shorter}
 use Rattle.query_reader.proofs.ClauseSound.{chain_sound}
 use Rattle.query_reader.proofs.query_source.chain_list.Goals as goal

@@ -1,7 +1,6 @@
 use Rattle.std.proofs.Common.{length, map}
-use Rattle.med_syntax.specs.SymbolView.{terminals_of}
+use Rattle.med_syntax.specs.Prelude.{terminals_of, chain_tree}
 use Rattle.query_reader.specs.QueryReading.{source_of}
-use Rattle.med_syntax.specs.QueryView.{chain_tree}
 use Rattle.query_reader.proofs.QueryLoop.{ListLoop}
 use Rattle.query_reader.proofs.query_source.chain_list.Given as goal
 

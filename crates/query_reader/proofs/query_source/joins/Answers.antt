@@ -2,8 +2,7 @@ use Rattle.std.proofs.Common.{ap, sym, subst, ◌<◌, List, Bor, length, map}
 use Rattle.std.proofs.lemmas.Result.{err_from_is_err_and}
 use Rattle.med_syntax.specs.declared.statement.Join.{Join}
 use Rattle.med_syntax.specs.declared.symbols.Symbol.{Symbol}
-use Rattle.med_syntax.specs.SymbolView.{terminals_of}
-use Rattle.med_syntax.specs.QueryView.{join_tree}
+use Rattle.med_syntax.specs.Prelude.{terminals_of, join_tree}
 use Rattle.query_reader.proofs.QueryLoop.{JoinsLoop, joins_start, joins_end, joins_failed, joins_more, joins_shorter}
 use Rattle.query_reader.proofs.query_source.joins.Goals as goal
 

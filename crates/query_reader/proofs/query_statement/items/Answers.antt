@@ -2,11 +2,8 @@ use Rattle.std.proofs.Common.{ap, ◌∙◌, List, [], ◌∷◌, ◌++◌, Bor,
 use Rattle.std.proofs.lemmas.Result.{err_from_is_err_and}
 use Rattle.med_syntax.specs.declared.statement.Item.{Item}
 use Rattle.med_syntax.specs.declared.symbols.Symbol.{Symbol}
-use Rattle.med_syntax.specs.SymbolView.{terminals_of}
-use Rattle.med_syntax.specs.QueryGrammar.{SpellsItem}
+use Rattle.med_syntax.specs.Prelude.{terminals_of, SpellsItem, item_height, item_tree}
 use Rattle.query_reader.specs.QueryReading.{item_of}
-use Rattle.med_syntax.specs.QueryTree.{item_height}
-use Rattle.med_syntax.specs.QueryView.{item_tree}
 use Rattle.query_reader.proofs.QueryLoop.{list_start, list_end, list_failed, list_unstarted, parts_more, parts_shorter}
 use Rattle.query_reader.proofs.PartSound.{item_sound}
 use Rattle.query_reader.proofs.query_statement.items.Goals as goal

@@ -1,10 +1,8 @@
 use Rattle.std.proofs.Common.{map, refl}
 use Rattle.std.specs.Prelude.{option_map}
 use Rattle.std.proofs.lemmas.Result.{err_from_is_err_and}
-use Rattle.med_syntax.specs.ExprView.{expr_tree}
-use Rattle.med_syntax.specs.SymbolView.{terminals_of}
+use Rattle.med_syntax.specs.Prelude.{expr_tree, terminals_of, item_tree, chain_tree, group_tree}
 use Rattle.query_reader.specs.QueryReading.{quantified_of}
-use Rattle.med_syntax.specs.QueryView.{item_tree, chain_tree, group_tree}
 use Rattle.query_reader.proofs.QuerySteps.{seq_goes, seq_reads, seq_fails}
 use Rattle.query_reader.proofs.query_statement.quantified.Goals as goal
 

@@ -1,9 +1,8 @@
 use Rattle.std.proofs.Common.{map, refl}
 use Rattle.std.specs.Prelude.{option_map}
 use Rattle.std.proofs.lemmas.Result.{err_from_is_err_and}
-use Rattle.med_syntax.specs.SymbolView.{terminals_of}
+use Rattle.med_syntax.specs.Prelude.{terminals_of, core_tree, key_tree, limit_tree}
 use Rattle.query_reader.specs.QueryReading.{query_of}
-use Rattle.med_syntax.specs.QueryView.{core_tree, key_tree, limit_tree}
 use Rattle.query_reader.proofs.QuerySteps.{seq_goes, seq_reads, seq_fails}
 use Rattle.query_reader.proofs.query_statement.query.Goals as goal
 

@@ -2,8 +2,7 @@ use Rattle.std.proofs.Common.{ap, sym, subst, ◌<◌, List, Bor, length, map}
 use Rattle.std.proofs.lemmas.Result.{err_from_is_err_and}
 use Rattle.med_syntax.specs.declared.statement.Core.{Core}
 use Rattle.med_syntax.specs.declared.symbols.Symbol.{Symbol}
-use Rattle.med_syntax.specs.SymbolView.{terminals_of}
-use Rattle.med_syntax.specs.QueryView.{core_tree}
+use Rattle.med_syntax.specs.Prelude.{terminals_of, core_tree}
 use Rattle.query_reader.proofs.QueryLoop.{UnionsLoop, unions_start, unions_end, unions_failed, unions_more, unions_shorter}
 use Rattle.query_reader.proofs.query_statement.unions.Goals as goal
 

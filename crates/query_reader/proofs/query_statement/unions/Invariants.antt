@@ -1,6 +1,5 @@
 use Rattle.std.proofs.Common.{length, map}
-use Rattle.med_syntax.specs.SymbolView.{terminals_of}
-use Rattle.med_syntax.specs.QueryView.{core_tree}
+use Rattle.med_syntax.specs.Prelude.{terminals_of, core_tree}
 use Rattle.query_reader.proofs.QueryLoop.{UnionsLoop}
 use Rattle.query_reader.proofs.query_statement.unions.Given as goal
 

@@ -1,8 +1,7 @@
 use Rattle.std.proofs.Common.{◌≡◌, [], map, drop}
 use Rattle.med_value.specs.Datum.{tuple}
-use Rattle.tri_expr.specs.Outcome.{over}
+use Rattle.tri_expr.specs.Prelude.{over, is_in}
 use Rattle.med_query.specs.Query.{senses}
-use Rattle.tri_expr.specs.Verdict.{is_in}
 use Rattle.random_tests.proofs.filtering.holds.Given as goal
 
 abbrev pub invariant-loop-e : goal.invariant-loop-e

@@ -1,8 +1,7 @@
 use Rattle.std.proofs.Common.{◌≡◌, ◌++◌, [], map, drop}
 use Rattle.med_value.specs.Datum.{datum, tuple}
-use Rattle.tri_expr.specs.Outcome.{over, value_of}
+use Rattle.tri_expr.specs.Prelude.{over, value_of, fault_list}
 use Rattle.med_query.specs.Query.{senses}
-use Rattle.tri_expr.specs.Verdict.{fault_list}
 use Rattle.random_tests.proofs.filtering.values.Given as goal
 
 abbrev pub invariant-loop-e : goal.invariant-loop-e

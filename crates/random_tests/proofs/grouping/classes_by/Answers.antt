@@ -1,7 +1,6 @@
 use Rattle.std.proofs.Common.{◌≡◌, List, map, filter, IfOk, sym, ap, ◌∙◌, subst, rules, arith}
 use Rattle.med_value.specs.Datum.{Tuple, tuple}
-use Rattle.med_query.specs.Lists.{distinct, tuple_eq}
-use Rattle.med_query.specs.Query.{key_of, has_key}
+use Rattle.med_query.specs.Prelude.{distinct, tuple_eq, key_of, has_key}
 use Rattle.random_tests.specs.Plain.{tuples_in}
 use Rattle.random_tests.proofs.Lists.{some_keys}
 use Rattle.random_tests.proofs.grouping.classes_by.Goals as goal

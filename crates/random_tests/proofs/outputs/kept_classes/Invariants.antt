@@ -1,8 +1,7 @@
 use Rattle.std.proofs.Common.{◌≡◌, ◌++◌, [], map, drop, filter}
 use Rattle.random_tests.specs.Plain.{tuples_in}
-use Rattle.tri_expr.specs.Outcome.{over}
+use Rattle.tri_expr.specs.Prelude.{over, is_in}
 use Rattle.med_query.specs.Query.{senses}
-use Rattle.tri_expr.specs.Verdict.{is_in}
 use Rattle.random_tests.proofs.outputs.kept_classes.Given as goal
 
 abbrev pub invariant-loop-class : goal.invariant-loop-class

@@ -1,5 +1,4 @@
-use Rattle.med_session.specs.Engine.{IsSound}
-use Rattle.med_session.specs.Shows.{shown}
+use Rattle.med_session.specs.Prelude.{IsSound, shown}
 use Rattle.session_tests.proofs.live.leaves_each.Given as goal
 
 -- the engine stays sound

@@ -1,7 +1,6 @@
 use denote.Text.{Utf8}
 use denote.Shadow.{shadow}
-use Rattle.med_session.specs.Engine.{IsSound}
-use Rattle.med_session.specs.Shows.{shown}
+use Rattle.med_session.specs.Prelude.{IsSound, shown}
 use Rattle.session_tests.proofs.talks.follows_all.Given as goal
 
 -- the engine stays sound, and the row before is text

@@ -1,15 +1,11 @@
 use Rattle.std.proofs.Common.{◌≡◌, ◌-◌, ◌≤◌, [], ◌++◌, Bool, false, true, not, ◌<◌, length, Some, refl, sym, ap, ◌∙◌, append-nil, arith, Result, Ok, Err, OnErr}
-use Rattle.std.proofs.lemmas.Bool.{leb-true}
+use Rattle.std.proofs.lemmas.Bool.{leb-true, not-true}
 use Rattle.med_value.specs.Limits.{line_limit}
 use Rattle.session_wire.specs.Lines.{IsFrontOfLine, unread_after}
 use Rattle.session_wire.proofs.FrontOfLine.{front-append, front_is_rest, no_front}
 use Rattle.session_wire.proofs.Runs.{front_stops}
 use Rattle.session_wire.proofs.answers.answer_piece.Goals.{then-piece-len, else-piece-len}
 use Rattle.session_wire.proofs.answers.answer_piece.Goals as goal
-
-negated : (b : Bool) → not b ≡ true → b ≡ false
-negated true e = cc
-negated false e = refl
 
 pub returns-then-is_err-clause-err : goal.returns-then-is_err-clause-err
 returns-then-is_err-clause-err g c = ([], sym (append-nil _), front_stops _ _ _)
@@ -19,7 +15,7 @@ returns-then-is_front-clause-ok g c =
     let front : IsFrontOfLine (c.args.unread.now.items ++ c.args.piece.now) =
     elim c.if-piece-len.branch [
       | then-piece-len w ↦
-          let none : w.contains.result ≡ false = negated _ (sym w.is_front-is ∙ c.if-is_front.true) in
+          let none : w.contains.result ≡ false = not-true _ (sym w.is_front-is ∙ c.if-is_front.true) in
           front-append _ _ c.requires.front (sym w.contains.ensures.value ∙ none) (omega arith)
       | else-piece-len w ↦
           let long : line_limit - c.len.result < length c.args.piece.now = w.if-piece-len.false in

@@ -1,8 +1,7 @@
 use Rattle.std.proofs.Common.{◌≡◌, ◌∙◌, ◌∷◌, [], ap, true}
 use Rattle.med_value.specs.declared.value.ColType.TheVariants.{Int}
 use Rattle.med_value.specs.Datum.{Tuple, tuple}
-use Rattle.fdw_api.specs.Kinds.{Inserts}
-use Rattle.fdw_api.specs.Writes.{row_of_change_fits}
+use Rattle.fdw_api.specs.Prelude.{Inserts, row_of_change_fits}
 use Rattle.source_tests.proofs.Writing.{writing_can_insert, staged_is_writing}
 use Rattle.source_tests.proofs.orders.stage_keys.Goals as goal
 

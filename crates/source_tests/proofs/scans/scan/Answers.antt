@@ -1,7 +1,6 @@
 use Rattle.std.proofs.Common.{◌≡◌, ℕ, List, map, sym, ◌∙◌, subst}
 use Rattle.med_value.specs.Datum.{datum}
-use Rattle.fdw_api.specs.Scan.{spec_by, spec_of, restriction_form}
-use Rattle.fdw_api.specs.Calls.{Allows}
+use Rattle.fdw_api.specs.Prelude.{spec_by, spec_of, restriction_form, Allows}
 use Rattle.fdw_api.specs.declared.scan.Restriction.{Restriction}
 use Rattle.source_tests.proofs.CallLemmas.{begun_can_rescan_by, found_to_fit}
 use Rattle.source_tests.proofs.scans.scan.Goals as goal

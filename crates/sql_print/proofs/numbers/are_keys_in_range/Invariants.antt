@@ -1,6 +1,5 @@
 use Rattle.std.proofs.Common.{◌≡◌, length, map}
-use Rattle.med_syntax.specs.QueryCauses.{all_in_range, key_in_range}
-use Rattle.med_syntax.specs.QueryView.{key_tree}
+use Rattle.med_syntax.specs.Prelude.{all_in_range, key_in_range, key_tree}
 use Rattle.sql_print.proofs.numbers.are_keys_in_range.Given as goal
 
 abbrev pub invariant-loop-left : goal.invariant-loop-left

@@ -1,7 +1,6 @@
 use Rattle.std.specs.Prelude.{option_map}
 use Rattle.std.specs.String.{string_bytes}
-use Rattle.med_syntax.specs.ExprTree.{spelling}
-use Rattle.med_syntax.specs.ExprView.{expr_tree}
+use Rattle.med_syntax.specs.Prelude.{spelling, expr_tree}
 use Rattle.sql_print.specs.QueryPrinting.{alias_written}
 use Rattle.sql_print.proofs.Writing.{then_if}
 use Rattle.sql_print.proofs.query_items.write_value.Goals as goal

@@ -1,6 +1,5 @@
 use Rattle.std.proofs.Common.{◌++◌, codes}
-use Rattle.med_syntax.specs.ExprTree.{spelling}
-use Rattle.med_syntax.specs.ExprView.{expr_tree}
+use Rattle.med_syntax.specs.Prelude.{spelling, expr_tree}
 use Rattle.sql_print.proofs.Writing.{then_if}
 use Rattle.sql_print.specs.QueryPrinting.{flag_written, nulls_written}
 use Rattle.sql_print.proofs.query_keys.write_key.Goals as goal

@@ -4,8 +4,7 @@ use Rattle.expr_writer.specs.ExprPrinting.{Wrote}
 use Rattle.sql_print.proofs.Writing.{then_if}
 use Rattle.med_syntax.specs.declared.statement.OrderKey.{OrderKey}
 use Rattle.sql_print.specs.QueryPrinting.{key_written, listed_written, limit_written, offset_written}
-use Rattle.med_syntax.specs.QueryTree.{SelectTree}
-use Rattle.med_syntax.specs.QueryView.{key_tree, select_tree}
+use Rattle.med_syntax.specs.Prelude.{SelectTree, key_tree, select_tree}
 use Rattle.sql_print.proofs.query_keys.write_tail.Goals as goal
 
 pub returns : goal.returns

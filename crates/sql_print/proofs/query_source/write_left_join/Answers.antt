@@ -1,9 +1,8 @@
 use Rattle.std.proofs.Common.{◌∷◌, codes}
 use Rattle.med_syntax.specs.Terminal as t
-use Rattle.med_syntax.specs.ExprView.{expr_tree}
+use Rattle.med_syntax.specs.Prelude.{expr_tree, entry_tree}
 use Rattle.sql_print.proofs.Writing.{more_if}
 use Rattle.sql_print.specs.QueryPrinting.{on_written}
-use Rattle.med_syntax.specs.QueryView.{entry_tree}
 use Rattle.sql_print.proofs.query_source.write_left_join.Goals as goal
 
 pub returns : goal.returns

@@ -1,8 +1,7 @@
 use Rattle.std.proofs.Common.{arith, List, ℕ, ◌≡◌, ◌∷◌, ap, sym, subst, length}
 use Rattle.std.specs.String.{string_bytes}
-use Rattle.med_syntax.specs.QueryGrammar.{HasStatement}
+use Rattle.med_syntax.specs.Prelude.{HasStatement, statement_tree}
 use Rattle.sql_print.specs.QueryPrinting.{printed_statement}
-use Rattle.med_syntax.specs.QueryView.{statement_tree}
 use Rattle.expr_writer.proofs.ExprPrints.{removed}
 use Rattle.sql_print.proofs.WritingParts.{spaced}
 use Rattle.sql_print.proofs.query_writer.print.Goals as goal

@@ -1,13 +1,11 @@
 use Rattle.std.proofs.Common.{◌++◌, ◌∷◌, List, [], codes, subst, map}
 use Rattle.std.specs.String.{string_bytes}
-use Rattle.med_syntax.specs.ExprTree.{spelling}
+use Rattle.med_syntax.specs.Prelude.{spelling, CoreTree, chain_tree, group_tree, core_tree}
 use Rattle.expr_writer.specs.ExprPrinting.{Wrote}
 use Rattle.sql_print.proofs.Writing.{then_if}
 use Rattle.med_syntax.specs.declared.statement.Chain.{Chain}
 use Rattle.med_syntax.specs.declared.statement.GroupColumn.{GroupColumn}
 use Rattle.sql_print.specs.QueryPrinting.{chain_written, group_written, listed_written, perhaps_written}
-use Rattle.med_syntax.specs.QueryTree.{CoreTree}
-use Rattle.med_syntax.specs.QueryView.{chain_tree, group_tree, core_tree}
 use Rattle.sql_print.proofs.query_writer.write_clauses.Goals as goal
 
 pub returns : goal.returns

@@ -5,8 +5,7 @@ use Rattle.expr_writer.specs.ExprPrinting.{Wrote}
 use Rattle.sql_print.proofs.Writing.{then_if, more_if}
 use Rattle.med_syntax.specs.declared.statement.Item.{Item}
 use Rattle.sql_print.specs.QueryPrinting.{item_written, list_written, quantifier_written, clauses_written}
-use Rattle.med_syntax.specs.QueryTree.{CoreTree}
-use Rattle.med_syntax.specs.QueryView.{items_tree, core_tree}
+use Rattle.med_syntax.specs.Prelude.{CoreTree, items_tree, core_tree}
 use Rattle.sql_print.proofs.query_writer.write_core.Goals as goal
 
 pub returns : goal.returns

@@ -4,8 +4,7 @@ use Rattle.expr_writer.specs.ExprPrinting.{Wrote}
 use Rattle.sql_print.proofs.Writing.{then_if}
 use Rattle.med_syntax.specs.declared.statement.Core.{Core}
 use Rattle.sql_print.specs.QueryPrinting.{core_written, unions_written, tail_written}
-use Rattle.med_syntax.specs.QueryTree.{SelectTree}
-use Rattle.med_syntax.specs.QueryView.{core_tree, select_tree}
+use Rattle.med_syntax.specs.Prelude.{SelectTree, core_tree, select_tree}
 use Rattle.sql_print.proofs.query_writer.write_select.Goals as goal
 
 pub returns : goal.returns

@@ -1,7 +1,6 @@
 use Rattle.std.proofs.Common.{map, rules}
 use Rattle.std.specs.String.{string_bytes}
-use Rattle.med_syntax.specs.ExprView.{expr_tree}
-use Rattle.med_syntax.specs.ExprTree.{spelling}
+use Rattle.med_syntax.specs.Prelude.{expr_tree, spelling}
 use Rattle.sql_print.proofs.WritingParts.{others_next}
 use Rattle.sql_print.proofs.write_lists.write_other_values.Goals as goal
 

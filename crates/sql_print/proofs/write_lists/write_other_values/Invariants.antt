@@ -1,8 +1,7 @@
 use Rattle.std.proofs.Common.{◌≡◌, ◌++◌, length, map}
 use Rattle.std.specs.String.{string_bytes}
 use Rattle.med_lexer.specs.Printing.{behind_spaces}
-use Rattle.med_syntax.specs.ExprView.{expr_tree}
-use Rattle.med_syntax.specs.ExprTree.{spelling}
+use Rattle.med_syntax.specs.Prelude.{expr_tree, spelling}
 use Rattle.expr_writer.specs.ExprPrinting.{shapes_for}
 use Rattle.sql_print.specs.QueryPrinting.{others_written}
 use Rattle.sql_print.proofs.write_lists.write_other_values.Given as goal

@@ -2,12 +2,10 @@ use Rattle.std.proofs.Common.{◌∷◌, ◌++◌, List, [], map, subst}
 use Rattle.std.specs.String.{string_bytes}
 use Rattle.med_syntax.specs.declared.expr.Expr.{Expr}
 use Rattle.med_syntax.specs.Terminal as t
-use Rattle.med_syntax.specs.ExprTree.{spelling}
-use Rattle.med_syntax.specs.ExprView.{expr_tree}
+use Rattle.med_syntax.specs.Prelude.{spelling, expr_tree, row_tree}
 use Rattle.expr_writer.specs.ExprPrinting.{Wrote}
 use Rattle.sql_print.specs.QueryPrinting.{list_written}
 use Rattle.sql_print.proofs.Writing.{then_if, more_if}
-use Rattle.med_syntax.specs.WriteView.{row_tree}
 use Rattle.sql_print.proofs.write_lists.write_row.Goals as goal
 
 pub returns : goal.returns

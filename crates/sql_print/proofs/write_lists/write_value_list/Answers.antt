@@ -1,6 +1,5 @@
 use Rattle.std.proofs.Common.{map}
-use Rattle.med_syntax.specs.ExprTree.{spelling}
-use Rattle.med_syntax.specs.ExprView.{expr_tree}
+use Rattle.med_syntax.specs.Prelude.{spelling, expr_tree}
 use Rattle.sql_print.specs.QueryPrinting.{others_written}
 use Rattle.sql_print.proofs.Writing.{then_if}
 use Rattle.sql_print.proofs.write_lists.write_value_list.Goals as goal

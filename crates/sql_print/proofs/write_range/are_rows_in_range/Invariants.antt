@@ -1,7 +1,6 @@
 use Rattle.std.proofs.Common.{◌≡◌, length, map}
-use Rattle.med_syntax.specs.QueryCauses.{all_in_range}
+use Rattle.med_syntax.specs.Prelude.{all_in_range, row_tree}
 use Rattle.write_parser.specs.WriteCauses.{row_in_range}
-use Rattle.med_syntax.specs.WriteView.{row_tree}
 use Rattle.sql_print.proofs.write_range.are_rows_in_range.Given as goal
 
 abbrev pub invariant-loop-left : goal.invariant-loop-left

@@ -1,7 +1,5 @@
 use Rattle.std.proofs.Common.{◌≡◌, length, map}
-use Rattle.med_syntax.specs.QueryCauses.{all_in_range}
-use Rattle.med_syntax.specs.ExprGrammar.{in_range}
-use Rattle.med_syntax.specs.ExprView.{expr_tree}
+use Rattle.med_syntax.specs.Prelude.{all_in_range, in_range, expr_tree}
 use Rattle.sql_print.proofs.write_range.is_row_in_range.Given as goal
 
 abbrev pub invariant-loop-left : goal.invariant-loop-left

@@ -5,8 +5,7 @@ use Rattle.expr_writer.specs.ExprPrinting.{Wrote}
 use Rattle.sql_print.specs.QueryPrinting.{list_written}
 use Rattle.sql_print.proofs.Writing.{then_if, more_if}
 use Rattle.med_syntax.specs.declared.write.SetClause.{SetClause}
-use Rattle.med_syntax.specs.WriteTree.{UpdateTree}
-use Rattle.med_syntax.specs.WriteView.{set_tree, update_tree}
+use Rattle.med_syntax.specs.Prelude.{UpdateTree, set_tree, update_tree}
 use Rattle.sql_print.specs.WritePrinting.{set_written, where_written}
 use Rattle.sql_print.proofs.write_writer.write_changes.Goals as goal
 

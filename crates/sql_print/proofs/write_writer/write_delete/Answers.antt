@@ -2,8 +2,7 @@ use Rattle.std.proofs.Common.{◌∷◌, ◌++◌, codes}
 use Rattle.med_syntax.specs.Terminal as t
 use Rattle.sql_print.specs.QueryPrinting.{entry_written}
 use Rattle.sql_print.proofs.Writing.{then_if, more_if}
-use Rattle.med_syntax.specs.WriteTree.{DeleteTree}
-use Rattle.med_syntax.specs.WriteView.{delete_tree}
+use Rattle.med_syntax.specs.Prelude.{DeleteTree, delete_tree}
 use Rattle.sql_print.specs.WritePrinting.{where_written}
 use Rattle.sql_print.proofs.write_writer.write_delete.Goals as goal
 

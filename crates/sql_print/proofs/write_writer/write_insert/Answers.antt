@@ -1,6 +1,5 @@
 use Rattle.sql_print.proofs.Writing.{then_if}
-use Rattle.med_syntax.specs.WriteTree.{InsertTree}
-use Rattle.med_syntax.specs.WriteView.{insert_tree}
+use Rattle.med_syntax.specs.Prelude.{InsertTree, insert_tree}
 use Rattle.sql_print.specs.WritePrinting.{target_written, given_written}
 use Rattle.sql_print.proofs.write_writer.write_insert.Goals as goal
 

@@ -5,11 +5,8 @@ use Rattle.sqlite.specs.View.{IsShaped}
 use Rattle.sqlite_trees.specs.declared.store.Shape.TheVariants as shape
 use Rattle.med_value.specs.Datum.{datum, cell}
 use Rattle.wrapper_parts.specs.Scans.{form_of}
-use Rattle.sqlite_tables.specs.Cells.{row_in}
-use Rattle.sqlite_tables.specs.Layouts.{layout_at}
-use Rattle.sqlite_tables.specs.Tables.{entries_of}
+use Rattle.sqlite_tables.specs.Prelude.{row_in, layout_at, entries_of, IsLookup, rows_with}
 use Rattle.sqlite_tables.proofs.Settled.{known_after, reads_none, reads_then, sure_first, sure_then, sure_same}
-use Rattle.sqlite_tables.specs.Lookups.{IsLookup, rows_with}
 use Rattle.sqlite_wrapper.proofs.Looking.{unanswered, looked_up}
 use Rattle.sqlite_wrapper.proofs.lookups.look_up.Goals as goal
 

@@ -1,12 +1,10 @@
 use Rattle.std.proofs.Common.{◌≡◌, ◌∙◌, ◌≤ℤ◌, ◌<ℤ◌, ℤ, true, rules, arith, sym, ap, subst, length, refl, w64, FitsSigned}
 use Rattle.std.proofs.lemmas.Int.{ints, to_z-of_z}
-use Rattle.std.proofs.lemmas.Option.{slice_get_read}
+use Rattle.std.proofs.lemmas.Option.{slice_get_read, same_Some}
 use Rattle.med_value.specs.Datum.{Tuple, tuple}
 use Rattle.fdw_api.specs.Scan.{spec_of, shown_fits}
-use Rattle.sqlite_tables.specs.Layouts.{kinds_in, layout_at}
-use Rattle.sqlite_tables.specs.Cells.{key_in}
+use Rattle.sqlite_tables.specs.Prelude.{kinds_in, layout_at, key_in}
 use Rattle.sqlite_wrapper.proofs.Given.{at_drop, row_same, shut, too_low, too_high}
-use Rattle.sqlite_wrapper.proofs.LiveScans.{some_inj}
 use Rattle.sqlite_wrapper.proofs.rows.given_next.Goals as goal
 use Rattle.sqlite_wrapper.proofs.rows.given_next.Goals.{then-not-scan-via-then-not-scan, then-not-scan-via-else-not-scan+then-key-scan, then-not-scan-via-else-not-scan+else-key-scan+then-scan-key}
 
@@ -32,7 +30,7 @@ returns-then-not-scan-clause-source c = λ source r there.
     let s = c.args.scan.now in
     let q = c.index.result.now in
     let at = slice_get_read s.page.items (length s.page.items) s.at q refl (omega arith) c.index.ensures in
-    let same : q ≡ r = some_inj q r (sym at ∙ there) in
+    let same : q ≡ r = same_Some q r (sym at ∙ there) in
     let key : c.in-Ok.read.key ≡ key_in r = c.in-Ok.ensures.key ∙ ap key_in same in
     elim c.then-not-scan.branch [
       | then-not-scan-via-then-not-scan w ↦ shut s r w.if-not-scan.true

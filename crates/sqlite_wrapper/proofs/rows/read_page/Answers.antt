@@ -2,8 +2,7 @@ use Rattle.std.proofs.Common.{◌∙◌, Some, true, length, nat_eq, refl, rules
 use Rattle.std.proofs.lemmas.Int.{to_z-of_z}
 use Rattle.sqlite.specs.Held.{state}
 use Rattle.sqlite_wrapper.specs.declared.scans.KeyScan.{KeyScan}
-use Rattle.sqlite_tables.specs.Layouts.{layout_at}
-use Rattle.sqlite_tables.specs.Tables.{IsKnown, IsSure, ReadsOnly}
+use Rattle.sqlite_tables.specs.Prelude.{layout_at, IsKnown, IsSure, ReadsOnly}
 use Rattle.sqlite_tables.proofs.Settled.{reads_none}
 use Rattle.sqlite_wrapper.proofs.Maps.{sets}
 use Rattle.sqlite_wrapper.proofs.LiveScans.{at_some, if_some}

@@ -1,8 +1,7 @@
 use Rattle.std.proofs.Common.{◌≡◌, ◌≢◌, ℕ, Option, None, IfOk, IfSome, length, subst}
 use Rattle.sqlite.specs.Held.{state}
 use Rattle.sqlite.specs.Effect.{Database}
-use Rattle.sqlite_tables.specs.Layouts.{layout_at}
-use Rattle.sqlite_tables.specs.Tables.{rows_of, tree_found}
+use Rattle.sqlite_tables.specs.Prelude.{layout_at, rows_of, tree_found}
 use Rattle.sqlite_tables.proofs.Settled.{known_after, reads_then, sure_first, sure_then, sure_same}
 use Rattle.sqlite_wrapper.proofs.Sure.{on_ok}
 use Rattle.sqlite_wrapper.proofs.writing.rows_there.Goals as goal

@@ -2,13 +2,11 @@ use Rattle.std.proofs.Common.{◌≡◌, ◌∙◌, ℕ, Option, Some, None, IfS
 use Rattle.std.proofs.lemmas.List.{length-map}
 use Rattle.sqlite.specs.Held.{state}
 use Rattle.sqlite.specs.Effect.{Database}
-use Rattle.med_value.specs.Causes.{phase_of}
-use Rattle.med_value.specs.Datum.{tuple}
+use Rattle.med_value.specs.Prelude.{phase_of, tuple}
 use Rattle.med_value.specs.declared.cause.Cause.{Cause}
 use Rattle.fdw_api.specs.Kinds.{is_of_run}
 use Rattle.wrapper_parts.specs.Staged.{change_is}
-use Rattle.sqlite_tables.specs.Layouts.{layout_at}
-use Rattle.sqlite_tables.specs.Tables.{rows_of, entries_in}
+use Rattle.sqlite_tables.specs.Prelude.{layout_at, rows_of, entries_in}
 use Rattle.sqlite_tables.proofs.Refused.{only_more, both_only}
 use Rattle.sqlite_writes.specs.Splitting.{AreChanges}
 use Rattle.sqlite_writes.specs.Rewriting.{rewritten, repeats_key}

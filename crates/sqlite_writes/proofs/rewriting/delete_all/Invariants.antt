@@ -3,8 +3,7 @@ use Rattle.sqlite.specs.Held.{state}
 use Rattle.sqlite.specs.View.{IsShaped}
 use Rattle.sqlite.specs.Edit.{without_all}
 use Rattle.sqlite_trees.specs.declared.store.Shape.TheVariants as shape
-use Rattle.sqlite_tables.specs.Steady.{IsCleanAfter}
-use Rattle.sqlite_tables.specs.Tables.{entries_in}
+use Rattle.sqlite_tables.specs.Prelude.{IsCleanAfter, entries_in}
 use Rattle.sqlite_writes.specs.Writable.{IsSureStep, KeepsTables, StepsTo}
 use Rattle.sqlite_writes.proofs.rewriting.delete_all.Given as goal
 

@@ -4,8 +4,7 @@ use Rattle.sqlite.specs.View.{IsShaped}
 use Rattle.sqlite.specs.Edit.{put_all, are_fresh}
 use Rattle.sqlite_trees.specs.declared.store.Shape.TheVariants as shape
 use Rattle.med_value.specs.Datum.{tuple}
-use Rattle.sqlite_tables.specs.Steady.{IsCleanAfter}
-use Rattle.sqlite_tables.specs.Tables.{entries_in}
+use Rattle.sqlite_tables.specs.Prelude.{IsCleanAfter, entries_in}
 use Rattle.sqlite_writes.specs.Writable.{IsSureStep, KeepsTables, StepsTo}
 use Rattle.sqlite_writes.specs.Rewriting.{stored_cells}
 use Rattle.sqlite_writes.proofs.rewriting.insert_all.Given as goal

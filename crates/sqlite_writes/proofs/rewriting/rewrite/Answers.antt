@@ -2,12 +2,11 @@ use Rattle.std.proofs.Common.{rules, ◌≡◌, ◌∙◌, IsTrue, not, map, ap,
 use Rattle.std.proofs.lemmas.Result.{err_from_is_err_and}
 use Rattle.sqlite_tables.proofs.Refused.{only_more}
 use Rattle.med_value.specs.Datum.{tuple}
-use Rattle.sqlite_tables.specs.Tables.{entries_in}
+use Rattle.sqlite_tables.specs.Prelude.{entries_in, IsCleanAfter}
 use Rattle.sqlite_writes.specs.Rewriting.{rewritten}
 use Rattle.sqlite_writes.proofs.Kept.{clean_before, commit_open, commit_undone}
 use Rattle.sqlite.specs.Effect.{Database}
 use Rattle.sqlite.specs.Held.{state}
-use Rattle.sqlite_tables.specs.Steady.{IsCleanAfter}
 use Rattle.sqlite_writes.specs.Writable.{IsSureWrite, KeepsTables}
 use Rattle.sqlite_writes.proofs.Changed.{entries_ordered, begun_step}
 use Rattle.sqlite_writes.proofs.rewriting.rewrite.Goals as goal

@@ -1,12 +1,11 @@
 use Rattle.std.proofs.Common.{◌≡◌, ℕ, List, [], ◌∷◌, map, sym, ap, subst, ◌∙◌}
+use Rattle.std.proofs.lemmas.Option.{same_Some}
 use Rattle.med_value.specs.Datum.{NoValue}
 use Rattle.med_value.specs.declared.value.ColType.{ColType}
-use Rattle.fdw_api.specs.Scan.{spec_by, spec_of, restriction_form, params_fit, RestrictionForm}
-use Rattle.fdw_api.specs.State.{BoxTable}
-use Rattle.fdw_api.specs.Calls.{Allows}
+use Rattle.fdw_api.specs.Prelude.{spec_by, spec_of, restriction_form, params_fit, RestrictionForm, BoxTable, Allows}
 use Rattle.fdw_api.specs.declared.scan.Restriction.{Restriction}
 use Rattle.tab_tests.specs.Tabs.{texts}
-use Rattle.tab_tests.proofs.Calls.{some_inj, begun_goes_on, ok_gives}
+use Rattle.tab_tests.proofs.Calls.{begun_goes_on, ok_gives}
 use Rattle.tab_tests.proofs.scans.begin_scan.Goals as goal
 
 pub begin-requires : goal.begin-requires
@@ -19,7 +18,7 @@ begin-requires g c =
     let o : c.deref-2.result.now ≡ offered.items = c.deref-2.ensures.value in
     let allowed : Allows s t (spec_of record { wanted = c.in_ok-wanted.wanted; offered = offered; agreement = a }) =
     subst (λ (x : List ℕ). Allows s t (spec_by x (map restriction_form offered.items) a)) w (subst (λ (x : List Restriction). Allows s t (spec_by c.deref.result.now (map restriction_form x) a)) o c.in_ok-agreement.ensures.ok) in
-    let same : allowed.bound ≡ c.requires.0 = some_inj allowed.bound c.requires.0 (sym allowed.is ∙ c.requires.1) in
+    let same : allowed.bound ≡ c.requires.0 = same_Some allowed.bound c.requires.0 (sym allowed.is ∙ c.requires.1) in
     record {
       bound = allowed.bound;
       is = allowed.is;

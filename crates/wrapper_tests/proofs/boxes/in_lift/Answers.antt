@@ -1,6 +1,5 @@
 use Rattle.std.proofs.Common.{ap, subst, sym, ◌∙◌, []}
-use Rattle.fdw_api.specs.State.{BoxState, IsIdle}
-use Rattle.fdw_api.specs.Lifting.{lifted}
+use Rattle.fdw_api.specs.Prelude.{BoxState, IsIdle, lifted}
 use Rattle.wrapper_tests.proofs.Wished.{idle_lifted}
 use Rattle.wrapper_tests.proofs.boxes.in_lift.Goals as goal
 

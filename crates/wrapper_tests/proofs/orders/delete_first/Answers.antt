@@ -1,6 +1,5 @@
 use Rattle.std.proofs.Common.{Some, refl}
-use Rattle.fdw_api.specs.Kinds.{Deletes}
-use Rattle.fdw_api.specs.Writes.{CanModify}
+use Rattle.fdw_api.specs.Prelude.{Deletes, CanModify}
 use Rattle.probe_wrapper.proofs.CallLemmas.{begun_is_open}
 use Rattle.wrapper_tests.proofs.CallLemmas.{staged_can_close}
 use Rattle.wrapper_tests.proofs.Deletes.{live_still, can_modify_still, can_delete_given}

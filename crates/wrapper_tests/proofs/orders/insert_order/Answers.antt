@@ -1,8 +1,7 @@
 use Rattle.std.proofs.Common.{◌≡◌, ◌∷◌, [], ap, true}
 use Rattle.med_value.specs.declared.value.ColType.TheVariants.{Int}
 use Rattle.med_value.specs.Datum.{Tuple, tuple}
-use Rattle.fdw_api.specs.Kinds.{Inserts}
-use Rattle.fdw_api.specs.Writes.{row_of_change_fits}
+use Rattle.fdw_api.specs.Prelude.{Inserts, row_of_change_fits}
 use Rattle.wrapper_tests.proofs.CallLemmas.{opened_can_insert, staged_can_close, written_has_table, on_ok}
 use Rattle.wrapper_tests.proofs.orders.insert_order.Goals as goal
 

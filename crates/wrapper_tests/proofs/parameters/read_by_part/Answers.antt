@@ -1,8 +1,7 @@
 use Rattle.std.proofs.Common.{◌≡◌, ℕ, List, [], ◌∷◌, map, refl, subst, pos}
 use Rattle.med_value.specs.Datum.{NoValue, Whole}
 use Rattle.med_value.specs.declared.value.ColType.TheVariants.{Int}
-use Rattle.fdw_api.specs.Scan.{spec_by, spec_of, restriction_form}
-use Rattle.fdw_api.specs.Calls.{Allows}
+use Rattle.fdw_api.specs.Prelude.{spec_by, spec_of, restriction_form, Allows}
 use Rattle.fdw_api.specs.declared.scan.Restriction.{Restriction}
 use Rattle.wrapper_tests.proofs.Deletes.{begun_can_rescan_by, typed_by}
 use Rattle.wrapper_tests.proofs.parameters.read_by_part.Goals as goal

@@ -1,6 +1,5 @@
 use Rattle.std.proofs.Common.{◌≡◌, ℕ, List, [], map, ap, subst, rules}
-use Rattle.fdw_api.specs.Scan.{spec_by, restriction_form, params_fit}
-use Rattle.fdw_api.specs.Calls.{Allows}
+use Rattle.fdw_api.specs.Prelude.{spec_by, restriction_form, params_fit, Allows}
 use Rattle.fdw_api.specs.declared.scan.Restriction.{Restriction}
 use Rattle.probe_wrapper.proofs.CallLemmas.{begun_is_open}
 use Rattle.wrapper_tests.proofs.CallLemmas.{planned_fits}

@@ -1,6 +1,5 @@
 use Rattle.std.proofs.Common.{◌≡◌, ℕ, List, [], map, subst, rules}
-use Rattle.fdw_api.specs.Scan.{spec_by, restriction_form}
-use Rattle.fdw_api.specs.Calls.{Allows}
+use Rattle.fdw_api.specs.Prelude.{spec_by, restriction_form, Allows}
 use Rattle.fdw_api.specs.declared.scan.Restriction.{Restriction}
 use Rattle.wrapper_tests.proofs.CallLemmas.{planned_begins, begun_can_rescan}
 use Rattle.wrapper_tests.proofs.reads.read_again.Goals as goal

@@ -1,6 +1,5 @@
 use Rattle.std.proofs.Common.{◌≡◌, ℕ}
-use Rattle.fdw_api.specs.State.{table_of}
-use Rattle.fdw_api.specs.Calls.{IsOpen}
+use Rattle.fdw_api.specs.Prelude.{table_of, IsOpen}
 use Rattle.wrapper_tests.proofs.reads.take_four.Given as goal
 
 abbrev pub invariant-loop : goal.invariant-loop

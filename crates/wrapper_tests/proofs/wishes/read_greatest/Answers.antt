@@ -1,6 +1,5 @@
 use Rattle.std.proofs.Common.{◌≡◌, ℕ, List, [], map, ap, subst}
-use Rattle.fdw_api.specs.Scan.{restriction_form, params_fit}
-use Rattle.fdw_api.specs.Wishes.{AllowsPromise, spec2_by}
+use Rattle.fdw_api.specs.Prelude.{restriction_form, params_fit, AllowsPromise, spec2_by}
 use Rattle.fdw_api.specs.declared.scan.Restriction.{Restriction}
 use Rattle.probe_wrapper.proofs.CallLemmas.{begun_is_open}
 use Rattle.wrapper_tests.proofs.Wished.{wished_begins}

@@ -3,8 +3,7 @@ use Rattle.std.specs.Prelude.{Result}
 use Rattle.med_lexer.specs.declared.Token.{Token}
 use Rattle.med_lexer.specs.Lexemes.{Shape}
 use Rattle.med_syntax.specs.declared.refusal.Refusal.{Refusal}
-use Rattle.med_syntax.specs.ExprAnswers.{ReadsAs}
-use Rattle.med_syntax.specs.View.{shapes_of}
+use Rattle.med_syntax.specs.Prelude.{ReadsAs, shapes_of}
 use Rattle.write_parser.proofs.CursorRead.{properties_at}
 use Rattle.write_parser.proofs.cursor_statement.behind_properties.Goals as goal
 

@@ -1,12 +1,9 @@
 use Rattle.std.proofs.Common.{ap, ◌∙◌, List, [], ◌∷◌, ◌++◌, Bor, map}
 use Rattle.std.proofs.lemmas.Result.{err_from_is_err_and}
 use Rattle.med_syntax.specs.declared.symbols.Symbol.{Symbol}
-use Rattle.med_syntax.specs.SymbolView.{terminals_of}
-use Rattle.med_syntax.specs.declared.expr.Expr.{Expr}
+use Rattle.med_syntax.specs.Prelude.{terminals_of, expr_tree, SpellsExpr, height}
 use Rattle.med_syntax.specs.ExprReading.{below}
-use Rattle.med_syntax.specs.ExprView.{expr_tree}
-use Rattle.med_syntax.specs.QueryGrammar.{SpellsExpr}
-use Rattle.med_syntax.specs.ExprTree.{height}
+use Rattle.med_syntax.specs.declared.expr.Expr.{Expr}
 use Rattle.query_reader.proofs.PartSound.{expr_sound}
 use Rattle.query_reader.proofs.QueryLoop.{list_start, list_end, list_failed, list_unstarted, parts_more, parts_shorter}
 use Rattle.write_parser.proofs.write_lists.expr_list.Goals as goal

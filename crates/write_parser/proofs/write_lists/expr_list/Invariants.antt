@@ -1,7 +1,6 @@
 use Rattle.std.proofs.Common.{length, map}
-use Rattle.med_syntax.specs.SymbolView.{terminals_of}
+use Rattle.med_syntax.specs.Prelude.{terminals_of, expr_tree}
 use Rattle.med_syntax.specs.ExprReading.{below}
-use Rattle.med_syntax.specs.ExprView.{expr_tree}
 use Rattle.query_reader.proofs.QueryLoop.{ListLoop}
 use Rattle.write_parser.proofs.write_lists.expr_list.Given as goal
 

@@ -1,14 +1,11 @@
 use Rattle.std.proofs.Common.{ap, ◌∙◌, List, [], ◌∷◌, ◌++◌, Bor, map, Global}
 use Rattle.std.proofs.lemmas.Result.{err_from_is_err_and}
 use Rattle.med_syntax.specs.declared.symbols.Symbol.{Symbol}
-use Rattle.med_syntax.specs.SymbolView.{terminals_of}
+use Rattle.med_syntax.specs.Prelude.{terminals_of, row_tree, SpellsExpr, row_height}
 use Rattle.std.specs.Prelude.{Vec}
 use Rattle.med_syntax.specs.declared.expr.Expr.{Expr}
 use Rattle.write_parser.specs.WriteReading.{row_of}
-use Rattle.med_syntax.specs.WriteView.{row_tree}
 use Rattle.write_parser.specs.WriteGrammar.{SpellsTuple}
-use Rattle.med_syntax.specs.QueryGrammar.{SpellsExpr}
-use Rattle.med_syntax.specs.WriteTree.{row_height}
 use Rattle.write_parser.proofs.WriteSound.{row_sound}
 use Rattle.query_reader.proofs.QueryLoop.{list_start, list_end, list_failed, list_unstarted, parts_more, parts_shorter}
 use Rattle.write_parser.proofs.write_lists.row_list.Goals as goal

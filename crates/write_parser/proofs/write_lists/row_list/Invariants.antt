@@ -1,7 +1,6 @@
 use Rattle.std.proofs.Common.{length, map}
-use Rattle.med_syntax.specs.SymbolView.{terminals_of}
+use Rattle.med_syntax.specs.Prelude.{terminals_of, row_tree}
 use Rattle.write_parser.specs.WriteReading.{row_of}
-use Rattle.med_syntax.specs.WriteView.{row_tree}
 use Rattle.query_reader.proofs.QueryLoop.{ListLoop}
 use Rattle.write_parser.proofs.write_lists.row_list.Given as goal
 

@@ -1,12 +1,10 @@
 use Rattle.std.proofs.Common.{ap, ◌∙◌, List, [], ◌∷◌, ◌++◌, Bor, map}
 use Rattle.std.proofs.lemmas.Result.{err_from_is_err_and}
 use Rattle.med_syntax.specs.declared.symbols.Symbol.{Symbol}
-use Rattle.med_syntax.specs.SymbolView.{terminals_of}
+use Rattle.med_syntax.specs.Prelude.{terminals_of, set_tree, set_height}
 use Rattle.med_syntax.specs.declared.write.SetClause.{SetClause}
 use Rattle.write_parser.specs.WriteReading.{set_of}
-use Rattle.med_syntax.specs.WriteView.{set_tree}
 use Rattle.write_parser.specs.WriteGrammar.{SpellsSet}
-use Rattle.med_syntax.specs.WriteTree.{set_height}
 use Rattle.write_parser.proofs.WriteSound.{set_sound}
 use Rattle.query_reader.proofs.QueryLoop.{list_start, list_end, list_failed, list_unstarted, parts_more, parts_shorter}
 use Rattle.write_parser.proofs.write_lists.set_list.Goals as goal

@@ -1,7 +1,6 @@
 use Rattle.std.proofs.Common.{length, map}
-use Rattle.med_syntax.specs.SymbolView.{terminals_of}
+use Rattle.med_syntax.specs.Prelude.{terminals_of, set_tree}
 use Rattle.write_parser.specs.WriteReading.{set_of}
-use Rattle.med_syntax.specs.WriteView.{set_tree}
 use Rattle.query_reader.proofs.QueryLoop.{ListLoop}
 use Rattle.write_parser.proofs.write_lists.set_list.Given as goal
 

@@ -3,15 +3,9 @@ use Rattle.std.specs.Prelude.{Ok, Err, String, Vec, Option, option_map}
 use Rattle.std.specs.String.{string_bytes}
 use Rattle.std.proofs.lemmas.Result.{err_from_is_err_and}
 use Rattle.med_syntax.specs.declared.symbols.Symbol.{Symbol}
-use Rattle.med_syntax.specs.ExprAnswers.{ReadsAs}
-use Rattle.med_syntax.specs.ExprTerminals.{terminals_at, AreReadable}
-use Rattle.med_syntax.specs.SymbolView.{terminals_of}
-use Rattle.med_syntax.specs.View.{shapes_of}
-use Rattle.med_syntax.specs.QueryView.{statement_tree}
+use Rattle.med_syntax.specs.Prelude.{ReadsAs, terminals_at, AreReadable, terminals_of, shapes_of, statement_tree, words_at, names_tree, write_tree}
 use Rattle.med_syntax.specs.declared.query_symbols.Place.TheVariants.{Before}
-use Rattle.med_syntax.specs.QueryTerminals.{words_at}
 use Rattle.query_reader.specs.QueryReading.{bounded_line}
-use Rattle.med_syntax.specs.WriteView.{names_tree, write_tree}
 use Rattle.write_parser.specs.WriteReading.{query_at, bounded_plain}
 use Rattle.write_parser.proofs.WriteTokens.{Parted, query_parted}
 use Rattle.write_parser.proofs.WriteRead.{plain_found, plain_low, plain_refused, given_found, given_low, query_refused, suffix_within, suffix_is, suffix_readable, refused_at, refused_as}

@@ -5,6 +5,7 @@ use Rattle.csv_tables.specs.Shapes.{content_causes}
 use Rattle.csv_tables.specs.Flat.{header_in}
 use Rattle.csv_tables.specs.Tables.{shape_is, records_of}
 use Rattle.csv_wrapper.proofs.Placing.{content_refused, reads_as, columns_there, names_there, heads}
+use Rattle.csv_wrapper.proofs.RisingTold.{rise_told}
 use Rattle.csv_wrapper.proofs.places.CsvPlacesPlacedTable.read.Goals as goal
 
 pub returns-in-Err-clause-err : goal.returns-in-Err-clause-err
@@ -25,3 +26,6 @@ returns-clause-ok c =
     let content : IsContent (shape_is c.in_ok-layout.layout) c.args.content.items (header_in c.in-Ok.content.header) (records_of c.in-Ok.content.rows) = rw c.deref.ensures.value at c.in-Ok.ensures.ok in
     let name : string_bytes c.in_ok-remote.remote ≡ c.args.remote.now = search rules in
     reads_as c.args.remote.now (map column_of c.args.columns.now) (map option_form c.args.options.now) c.args.content.items _ name c.in_ok-layout.ensures content
+
+pub invariant_of-result : goal.invariant_of-result
+invariant_of-result c = record { risen = λ told. rise_told _ (c.first_rises-rises.ensures told) }

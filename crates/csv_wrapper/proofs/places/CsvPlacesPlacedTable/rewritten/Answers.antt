@@ -1,9 +1,13 @@
-use Rattle.std.proofs.Common.{◌≡◌, ◌∙◌, refl, ap, sym, map, length, string_bytes, rules}
+use Rattle.std.proofs.Common.{◌≡◌, ◌∙◌, true, refl, ap, sym, map, length, string_bytes, rules}
 use Rattle.wrapper_parts.specs.Staged.{change_is}
 use Rattle.csv_tables.specs.CsvRecords.{csv_records, heading}
 use Rattle.csv_tables.specs.Shapes.{Shape}
 use Rattle.csv_tables.specs.Flat.{header_in}
 use Rattle.csv_wrapper.proofs.Placing.{changes_refused, rewrites, names_copied, heads}
+use Rattle.csv_tables.specs.Rises.{first_column}
+use Rattle.csv_tables.proofs.RisingKeys.{after_rises}
+use Rattle.wrapper_parts.specs.Rising.{AreRising}
+use Rattle.csv_wrapper.proofs.RisingTold.{rise_told, rise_known}
 use Rattle.csv_wrapper.proofs.places.CsvPlacesPlacedTable.rewritten.Goals as goal
 
 pub returns-in-Err-clause-err : goal.returns-in-Err-clause-err
@@ -27,3 +31,12 @@ pub returns-clause-ok : goal.returns-clause-ok
 returns-clause-ok c =
     let name : string_bytes c.in_ok-remote.remote ≡ string_bytes c.args.self.now.table.remote = search rules in
     rewrites c.args.self.now _ (map change_is c.args.changes.items) c.in-Ok.written name c.in_ok-layout.ensures refl refl c.in-Ok.ensures.ok
+
+pub invariant_of-result : goal.invariant_of-result
+invariant_of-result c =
+    let old = c.args.self.now in
+    let was : old.rises ≡ true → AreRising (first_column old.table) = λ known. rise_known (first_column old.table) (old.risen known) in
+    record {
+      risen = λ told. rise_told _ (after_rises old.table c.in_ok-layout.layout c.in-Ok.written (map change_is c.args.changes.items) c.in_ok-layout.ensures c.in-Ok.ensures.ok
+          (rw c.deref.ensures.value at (c.stays_rising-rises.ensures told was)));
+    }

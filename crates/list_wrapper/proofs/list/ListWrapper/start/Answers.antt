@@ -1,8 +1,7 @@
 use Rattle.std.proofs.Common.{◌≡◌, List, map, ap, refl, subst, arith, rules}
 use Rattle.med_value.specs.declared.value.Row.{Row}
 use Rattle.med_value.specs.Datum.{datum}
-use Rattle.fdw_api.specs.Scan.{Spec, spec_of}
-use Rattle.fdw_api.specs.Wishes.{key_form}
+use Rattle.fdw_api.specs.Prelude.{Spec, spec_of, key_form}
 use Rattle.fdw_api.specs.declared.wishes.OrderKey.{OrderKey}
 use Rattle.list_wrapper.specs.Scans.{numbered, rows_at, index_of, Arranges}
 use Rattle.list_wrapper.proofs.Calls.{at_some, list_begins, keeps_fitting, same_fitting, same_fresh, begins_fresh, refused_begin, no_index_serves, no_index_stands}

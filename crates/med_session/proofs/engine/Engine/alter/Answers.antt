@@ -2,9 +2,8 @@ use Rattle.std.proofs.Common.{◌≡◌, true, false, string_bytes, refl, sym, �
 use Rattle.std.proofs.lemmas.Result.{err_from_is_err_and}
 use Rattle.med_syntax.specs.DdlView.{ddl_tree}
 use Rattle.med_value.specs.declared.cause.Cause.TheVariants.{InUse}
-use Rattle.med_catalog.specs.Changes.{Asks, nothing}
+use Rattle.med_catalog.specs.Prelude.{Asks, nothing, objects, change_of, server_of, table_of}
 use Rattle.med_catalog.specs.declared.change.Change.{Change}
-use Rattle.med_catalog.specs.View.{objects, change_of, server_of, table_of}
 use Rattle.med_world.specs.Engine.{leased}
 use Rattle.med_session.specs.Shows.{shown}
 use Rattle.med_session.proofs.Tables.{told_leased, not_checked, allowed_by, is_altered, server_added, server_not_added, table_not_added, dropped_server, dropped_table, on_follows, err_follows, err_kept}

@@ -1,9 +1,7 @@
 use Rattle.std.proofs.Common.{codes, sym, subst}
 use Rattle.med_exec.specs.Slots.{states}
-use Rattle.med_world.specs.Open.{seated}
-use Rattle.med_world.specs.Engine.{Shown, IsSound, Leads}
-use Rattle.sql_meaning.specs.Replies.{done, refused}
-use Rattle.sql_meaning.specs.Requests.{bye}
+use Rattle.med_world.specs.Prelude.{seated, Shown, IsSound, Leads}
+use Rattle.sql_meaning.specs.Prelude.{done, refused, bye}
 use Rattle.med_value.specs.declared.cause.Cause.TheVariants.{NoConnection}
 use Rattle.med_session.specs.Shows.{shown}
 use Rattle.med_session.proofs.Seats.{no_user, vacated, left_shut}

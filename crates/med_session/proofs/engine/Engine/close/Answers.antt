@@ -1,11 +1,7 @@
 use Rattle.std.proofs.Common.{◌≡◌, ◌∙◌, Some, None, codes, refl, sym, subst}
 use Rattle.med_exec.specs.Slots.{states}
-use Rattle.med_world.specs.Open.{seated}
-use Rattle.med_world.specs.Engine.{Shown, IsSound, Leads}
-use Rattle.sql_meaning.specs.Replies.{done, refused}
-use Rattle.sql_meaning.specs.Requests.{sql}
-use Rattle.med_world.specs.Seats.{seat_of}
-use Rattle.med_world.specs.Turning.{at_once}
+use Rattle.med_world.specs.Prelude.{seated, Shown, IsSound, Leads, seat_of, at_once}
+use Rattle.sql_meaning.specs.Prelude.{done, refused, sql}
 use Rattle.med_session.specs.Shows.{shown}
 use Rattle.med_session.proofs.Seats.{put_other, put_back, read_seat, seat_sound, seat_running, left_long}
 use Rattle.med_session.proofs.engine.Engine.close.Goals as goal

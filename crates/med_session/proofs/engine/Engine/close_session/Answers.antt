@@ -1,7 +1,6 @@
 use Rattle.std.proofs.Common.{sym, subst}
 use Rattle.med_exec.specs.Slots.{states}
-use Rattle.med_world.specs.Open.{seated}
-use Rattle.med_world.specs.Engine.{Shown, IsSound, Closes}
+use Rattle.med_world.specs.Prelude.{seated, Shown, IsSound, Closes}
 use Rattle.med_session.specs.Shows.{shown}
 use Rattle.med_session.proofs.Seats.{vacated, shut}
 use Rattle.med_session.proofs.engine.Engine.close_session.Goals as goal

@@ -1,11 +1,7 @@
 use Rattle.std.proofs.Common.{◌≡◌, ◌∙◌, Some, None, codes, sym, subst}
 use Rattle.med_exec.specs.Slots.{states}
-use Rattle.med_world.specs.Open.{seated}
-use Rattle.med_world.specs.Engine.{Shown, IsSound, Leads}
-use Rattle.med_world.specs.Laws.{with_boxes}
-use Rattle.sql_meaning.specs.Replies.{done, refused}
-use Rattle.sql_meaning.specs.Requests.{sql}
-use Rattle.med_world.specs.Seats.{seat_of}
+use Rattle.med_world.specs.Prelude.{seated, Shown, IsSound, Leads, with_boxes, seat_of}
+use Rattle.sql_meaning.specs.Prelude.{done, refused, sql}
 use Rattle.med_session.specs.Cursors.{is_taken, no_memory, not_started}
 use Rattle.med_session.specs.Shows.{shown}
 use Rattle.med_session.proofs.Seats.{put_other, put_back, read_declare, left_long}

@@ -1,12 +1,8 @@
 use Rattle.std.proofs.Common.{◌≡◌, ◌∙◌, map, Some, None, string_bytes, codes, sym, subst}
 use Rattle.med_value.specs.Datum.{tuple}
 use Rattle.med_exec.specs.Slots.{states}
-use Rattle.med_world.specs.Open.{seated}
-use Rattle.med_world.specs.Engine.{Shown, IsSound, Leads}
-use Rattle.sql_meaning.specs.Replies.{answered}
-use Rattle.sql_meaning.specs.Requests.{sql}
-use Rattle.med_world.specs.Seats.{seat_of}
-use Rattle.med_world.specs.Turning.{having_asked}
+use Rattle.med_world.specs.Prelude.{seated, Shown, IsSound, Leads, seat_of, having_asked}
+use Rattle.sql_meaning.specs.Prelude.{answered, sql}
 use Rattle.med_session.specs.Shows.{shown}
 use Rattle.med_session.proofs.Seats.{put_other, read_seat, seat_sound, seat_running, left_long}
 use Rattle.med_session.proofs.Turns.{may_be_untold, failed_sound, failed_leads}

@@ -1,8 +1,6 @@
 use Rattle.std.proofs.Common.{◌∙◌, None, sym, subst}
 use Rattle.med_exec.specs.Slots.{states}
-use Rattle.med_world.specs.Open.{seated}
-use Rattle.med_world.specs.Engine.{Shown, IsSound}
-use Rattle.med_world.specs.Turning.{at_once}
+use Rattle.med_world.specs.Prelude.{seated, Shown, IsSound, at_once}
 use Rattle.med_session.specs.Shows.{shown}
 use Rattle.med_session.proofs.Seats.{put_other, seat_sound, seat_running, left_long}
 use Rattle.med_session.proofs.engine.Engine.lose.Goals as goal

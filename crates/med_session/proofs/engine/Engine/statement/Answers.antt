@@ -1,17 +1,11 @@
 use Rattle.std.proofs.Common.{◌≡◌, ℕ, List, true, false, Option, Some, None, subst, refl, is_some, option_map, sym, ap, ◌∙◌, rules}
 use Rattle.med_parser.specs.CommandTree.{on_data, on_rows, on_cursors, on_objects, command_tree}
-use Rattle.med_syntax.specs.CursorView.{cursor_tree}
+use Rattle.med_syntax.specs.Prelude.{cursor_tree, ddl_tree, write_tree, statement_tree}
 use Rattle.med_parser.specs.CommandGrammar.{HasCommand}
 use Rattle.med_parser.specs.declared.command.Command.{Command}
-use Rattle.med_syntax.specs.DdlView.{ddl_tree}
-use Rattle.med_syntax.specs.WriteView.{write_tree}
-use Rattle.med_syntax.specs.QueryView.{statement_tree}
 use Rattle.med_binder.specs.Looked.{query_in}
-use Rattle.med_world.specs.Seats.{user_of}
-use Rattle.med_world.specs.Laws.{IsRead}
-use Rattle.sql_meaning.specs.Replies.{done}
-use Rattle.med_world.specs.Engine.{Shown, Leads}
-use Rattle.sql_meaning.specs.Requests.{sql}
+use Rattle.med_world.specs.Prelude.{user_of, IsRead, Shown, Leads}
+use Rattle.sql_meaning.specs.Prelude.{done, sql}
 use Rattle.med_session.specs.Shows.{shown}
 use Rattle.med_session.proofs.Leading.{read_query}
 use Rattle.med_session.proofs.Tables.{queries_ready, ready_of}

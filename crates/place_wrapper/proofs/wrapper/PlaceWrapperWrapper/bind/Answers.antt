@@ -1,13 +1,12 @@
 use Rattle.std.proofs.Common.{◌≡◌, ◌<◌, ◌∙◌, Some, None, map, option_map, length, slice_set, ap, sym, subst, true, rules}
 use Rattle.std.specs.Option.{option_flatten}
-use Rattle.std.proofs.lemmas.Option.{slice_get_within}
+use Rattle.std.proofs.lemmas.Option.{slice_get_within, same_Some}
 use Rattle.blob_store.specs.Names.{is_blob_name}
 use Rattle.blob_store.specs.Shelves.{Shelf}
 use Rattle.place_wrapper.specs.Holdings.{held_under}
 use Rattle.fdw_api.specs.Kinds.{column_of, option_form}
 use Rattle.wrapper_parts.specs.Staged.{write_is}
 use Rattle.place_wrapper.specs.Boxes.{table_at}
-use Rattle.place_wrapper.proofs.Options.{some_inj}
 use Rattle.place_wrapper.proofs.Binding.{put_there, put_others, same_tables_fitting, stay_fitting, unscanned_free, write_same, write_stays, set_named, set_apart, set_kept}
 use Rattle.place_wrapper.proofs.Closing.{place_binds, read_kept}
 use Rattle.place_wrapper.proofs.wrapper.PlaceWrapperWrapper.bind.Goals as goal
@@ -62,9 +61,9 @@ invariant_of-self-2 g c =
       rising = s.rising;
       fresh = s.fresh;
       named = set_named F old new at (Some x) there (λ q ne. put_others made at (Some x) q ne ∙ same q)
-          (λ y e. subst (λ (z : g.row.T.Denot). is_blob_name (F.bound z).remote ≡ true) (some_inj x y e) (ap is_blob_name reads.remote_is ∙ named)) s.named;
+          (λ y e. subst (λ (z : g.row.T.Denot). is_blob_name (F.bound z).remote ≡ true) (same_Some x y e) (ap is_blob_name reads.remote_is ∙ named)) s.named;
       apart = set_apart F old new at (Some x) there (λ q ne. put_others made at (Some x) q ne ∙ same q)
-          (λ y e t z ne is q. c.requires.free t (F.bound z) (ap (option_map F.bound) is) (q ∙ ap (λ (v : g.row.T.Denot). (F.bound v).remote) (sym (some_inj x y e)) ∙ reads.remote_is)) s.apart;
+          (λ y e t z ne is q. c.requires.free t (F.bound z) (ap (option_map F.bound) is) (q ∙ ap (λ (v : g.row.T.Denot). (F.bound v).remote) (sym (same_Some x y e)) ∙ reads.remote_is)) s.apart;
       kept = set_kept F shelf after old new at (Some x) there (λ q ne. put_others made at (Some x) q ne ∙ same q)
           (λ y e is known. read_kept F shelf after c.args.remote.now columns settings content x y e r.same named r.finds reads is known)
           (λ t y ne is. ap (λ (z : Shelf). held_under z (F.bound y).remote) r.same) s.kept;

@@ -1,11 +1,11 @@
 use Rattle.std.proofs.Common.{◌≡◌, ◌∙◌, Some, map, option_map, slice_set, ap, sym, subst, true, rules}
+use Rattle.std.proofs.lemmas.Option.{same_Some}
 use Rattle.blob_store.specs.Names.{is_blob_name}
 use Rattle.blob_store.specs.Shelves.{Replaces}
 use Rattle.fdw_api.specs.State.{BoxTable}
 use Rattle.wrapper_parts.specs.Staged.{change_is, write_is}
 use Rattle.place_wrapper.specs.Boxes.{table_at}
 use Rattle.place_wrapper.specs.Forms.{Rewrites}
-use Rattle.place_wrapper.proofs.Options.{some_inj}
 use Rattle.place_wrapper.proofs.Binding.{put_there, put_others, is_within, stay_fitting, unscanned_by, write_none, set_named, set_apart, set_kept}
 use Rattle.place_wrapper.proofs.Closing.{staged_scans, kept_closes, unmade_refuses, written_kept, written_others}
 use Rattle.place_wrapper.proofs.wrapper.PlaceWrapperWrapper.end_modify.Goals as goal
@@ -63,9 +63,9 @@ invariant_of-self-in-Ok-replace g c =
       rising = s.rising;
       fresh = s.fresh;
       named = set_named F s.tables.items new w.table (Some y) there others
-          (λ z e. ap (λ (v : g.row.T.Denot). is_blob_name (F.bound v).remote) (sym (some_inj y z e)) ∙ ap (λ (b : BoxTable). is_blob_name b.remote) made.bound ∙ named) s.named;
+          (λ z e. ap (λ (v : g.row.T.Denot). is_blob_name (F.bound v).remote) (sym (same_Some y z e)) ∙ ap (λ (b : BoxTable). is_blob_name b.remote) made.bound ∙ named) s.named;
       apart = set_apart F s.tables.items new w.table (Some y) there others
-          (λ z e t v ne is q. ne (s.apart t w.table v x is was (q ∙ ap (λ (u : g.row.T.Denot). (F.bound u).remote) (sym (some_inj y z e)) ∙ ap (λ (b : BoxTable). b.remote) made.bound))) s.apart;
+          (λ z e t v ne is q. ne (s.apart t w.table v x is was (q ∙ ap (λ (u : g.row.T.Denot). (F.bound u).remote) (sym (same_Some y z e)) ∙ ap (λ (b : BoxTable). b.remote) made.bound))) s.apart;
       kept = set_kept F shelf after s.tables.items new w.table (Some y) there others
           (λ z e is known. written_kept F shelf after x y z image (map change_is w.changes.items) e named replaced made is known)
           (λ t z ne is. written_others F shelf after s.tables.items w.table t x z image s.apart was ne is replaced) s.kept;

@@ -1,4 +1,5 @@
 use Rattle.std.proofs.Common.{Some, ◌≡◌, ◌∙◌, ◌&&◌, ℕ, true, false, nat_lt, map, refl, sym, subst, slice_index_or, arith}
+use Rattle.std.proofs.lemmas.Option.{same_Some}
 use Rattle.med_value.specs.Datum.{Tuple, datum}
 use Rattle.fdw_api.specs.Scan.{Spec, spec_of}
 use Rattle.wrapper_parts.specs.Ranges.{only_keys}
@@ -10,7 +11,7 @@ use Rattle.sqlite_wrapper.proofs.Kept.{within_count}
 use Rattle.sqlite_wrapper.specs.Boxes.{IsBegun, allows, asked_of, bound_of, is_allowed, promised, scan_is}
 use Rattle.sqlite_wrapper.specs.declared.scans.KeyScan.{KeyScan}
 use Rattle.sqlite_wrapper.proofs.Maps.{sets}
-use Rattle.sqlite_wrapper.proofs.LiveScans.{asks, begun_fresh, keeps_allowed, marked_bound_is, some_inj, refused_by, sqlite_begins, sqlite_refuses}
+use Rattle.sqlite_wrapper.proofs.LiveScans.{asks, begun_fresh, keeps_allowed, marked_bound_is, refused_by, sqlite_begins, sqlite_refuses}
 use Rattle.sqlite_wrapper.specs.Looks.{Looks}
 use Rattle.sqlite_wrapper.proofs.Looking.{keeps_looks, looks_none}
 use Rattle.sqlite_wrapper.proofs.Giving.{same_get}
@@ -72,11 +73,11 @@ invariant_of-self-2 g c =
       typed_write = s.typed_write;
       counts = s.counts;
       few = s.few;
-      allowed = keeps_allowed s.scans c.insert.new.self s.next (Some scan) s.allowed (λ z e. subst (λ (y : KeyScan). is_allowed (scan_is y) ≡ true) (some_inj _ _ e) ok) u;
+      allowed = keeps_allowed s.scans c.insert.new.self s.next (Some scan) s.allowed (λ z e. subst (λ (y : KeyScan). is_allowed (scan_is y) ≡ true) (same_Some _ _ e) ok) u;
       fresh = begun_fresh s.scans c.insert.new.self s.next (Some scan) s.fresh u;
       looked = λ h.
           let db = (state g.S.Store s.conn).now in
-          keeps_looks db s.scans c.insert.new.self s.next (Some scan) (s.looked h) (λ z e. subst (Looks db) (some_inj _ _ e) (looks_none db scan begun.new.no_lookup)) u;
+          keeps_looks db s.scans c.insert.new.self s.next (Some scan) (s.looked h) (λ z e. subst (Looks db) (same_Some _ _ e) (looks_none db scan begun.new.no_lookup)) u;
     }
 
 pub invariant_of-self : goal.invariant_of-self

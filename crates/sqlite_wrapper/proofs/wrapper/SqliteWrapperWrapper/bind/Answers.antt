@@ -2,8 +2,7 @@ use Rattle.std.proofs.Common.{◌∙◌, true, sym, ap, subst, length, rules, op
 use Rattle.sqlite.specs.Held.{state}
 use Rattle.wrapper_parts.specs.Staged.{write_is}
 use Rattle.sqlite.specs.Effect.{Database}
-use Rattle.sqlite_tables.specs.Layouts.{layout_at}
-use Rattle.sqlite_tables.specs.Tables.{rows_of}
+use Rattle.sqlite_tables.specs.Prelude.{layout_at, rows_of}
 use Rattle.sqlite_tables.proofs.Clean.{clean_sure}
 use Rattle.sqlite_tables.proofs.Refused.{both_only}
 use Rattle.sqlite_wrapper.specs.Boxes.{rows_at}

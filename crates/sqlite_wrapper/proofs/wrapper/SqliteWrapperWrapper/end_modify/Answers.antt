@@ -1,8 +1,7 @@
 use Rattle.std.proofs.Common.{◌≡◌, ◌∙◌, Bool, true, Option, None, Some, IsTrue, option_map, map, refl, sym, ap, subst}
 use Rattle.sqlite.specs.Held.{state}
 use Rattle.sqlite.specs.Schema.{Schema}
-use Rattle.fdw_api.specs.Calls.{faults_after}
-use Rattle.fdw_api.specs.Writes.{CanClose, Closes, RefusesClose}
+use Rattle.fdw_api.specs.Prelude.{faults_after, CanClose, Closes, RefusesClose}
 use Rattle.std.proofs.Math.Logic.{∥∥₁_map}
 use Rattle.wrapper_parts.specs.Staged.{change_is, write_is}
 use Rattle.sqlite_tables.proofs.Refused.{both_only}

@@ -1,4 +1,6 @@
 use Rattle.std.proofs.Common.{nat_lt, ℕ, ◌&&◌, Some, None, ◌≡◌, true, map, option_map, sym, subst, refl}
+use Rattle.std.proofs.lemmas.Option.{same_Some}
+use Rattle.std.proofs.lemmas.Bool.{and_parts}
 use Rattle.med_value.specs.Datum.{datum}
 use Rattle.fdw_api.specs.Scan.{Spec}
 use Rattle.sqlite.specs.Held.{state}
@@ -11,7 +13,7 @@ use Rattle.sqlite_wrapper.proofs.Maps.{sets, sets_on}
 use Rattle.sqlite_wrapper.proofs.Kept.{writable_after, apart_after, there_after, counts_after}
 use Rattle.sqlite_wrapper.proofs.Giving.{known_at, there_is, allows_same, breaks_by}
 use Rattle.sqlite_wrapper.proofs.Looking.{keeps_looks, looks_after, looks_kept, looks_none, had_looks, answer_looks, answered_coming}
-use Rattle.sqlite_wrapper.proofs.LiveScans.{some_inj, both, at_some, if_some, open_there, keeps_fresh, keeps_allowed, rescan_asks, sqlite_rescans, sqlite_breaks}
+use Rattle.sqlite_wrapper.proofs.LiveScans.{at_some, if_some, open_there, keeps_fresh, keeps_allowed, rescan_asks, sqlite_rescans, sqlite_breaks}
 use Rattle.sqlite_wrapper.proofs.wrapper.SqliteWrapperWrapper.rescan.Goals as goal
 
 pub begun_again-requires-clause-there : goal.begun_again-requires-clause-there
@@ -114,7 +116,7 @@ returns-in-Ok-look_up-clause-ok g c =
     let after = (state g.S.Store c.look_up.new.conn).now in
     let v = sets c.take_lookup-had.new.scans c.put_scan.new.scans number (Some x) c.put_scan.ensures in
     let u = sets_on s.scans c.take_lookup-had.new.scans c.put_scan.new.scans number _ _ took v in
-    let may = both (nat_lt w.0.table layout_count) (allows (asked_of w.0)) (s.allowed number w.0 w.1) in
+    let may = and_parts (nat_lt w.0.table layout_count) (allows (asked_of w.0)) (s.allowed number w.0 w.1) in
     let answered = c.in-Ok-look_up.ensures.answered in
     sqlite_rescans honest s.bound.items s.staged db c.in-Ok.scan w.0.table (asked_of w.0) (map datum c.args.params.now) begun may.1
     after s.scans c.put_scan.new.scans s.next s.pulled s.faults number w.0 x c.look_up.ensures.same answered.shows
@@ -159,7 +161,7 @@ returns-in-Ok-look_up-clause-clean_ok g c steady known looked =
     let after = (state g.S.Store c.look_up.new.conn).now in
     let v = sets c.take_lookup-had.new.scans c.put_scan.new.scans number (Some x) c.put_scan.ensures in
     let u = sets_on s.scans c.take_lookup-had.new.scans c.put_scan.new.scans number _ _ took v in
-    let may = both (nat_lt w.0.table layout_count) (allows (asked_of w.0)) (s.allowed number w.0 w.1) in
+    let may = and_parts (nat_lt w.0.table layout_count) (allows (asked_of w.0)) (s.allowed number w.0 w.1) in
     let sure = clean_sure g.S.Store s.conn c.look_up.new.conn (layout_at c.in-Ok.scan.table) steady c.schema-schema.ensures.live c.look_up.ensures.reads (known c.in-Ok.scan.table) in
     let fixed = c.look_up.ensures.reads.same sure.after sure.known in
     let had = had_looks db w.0 c.in-Ok.scan c.take_lookup-had.result (looked number w.0 w.1) (if_some _ _ w.0 w.1 c.take_lookup-had.ensures.lookup) begun.new.table in
@@ -184,7 +186,7 @@ invariant_of-self g c =
       there = s.there;
       counts = s.counts;
       few = s.few;
-      allowed = keeps_allowed s.scans c.spoil.new.scans c.args.ticket.now.number _ s.allowed (λ z e. subst (λ (y : KeyScan). is_allowed (scan_is y) ≡ true) (some_inj _ _ e) (s.allowed c.args.ticket.now.number w.0 w.1)) u;
+      allowed = keeps_allowed s.scans c.spoil.new.scans c.args.ticket.now.number _ s.allowed (λ z e. subst (λ (y : KeyScan). is_allowed (scan_is y) ≡ true) (same_Some _ _ e) (s.allowed c.args.ticket.now.number w.0 w.1)) u;
       fresh = keeps_fresh s.scans c.spoil.new.scans c.args.ticket.now.number s.next _ s.fresh is u;
       looked = λ h.
           let db = (state g.S.Store s.conn).now in

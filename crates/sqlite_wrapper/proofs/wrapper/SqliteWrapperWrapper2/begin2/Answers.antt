@@ -1,9 +1,7 @@
 use Rattle.std.proofs.Common.{◌≡◌, List, true, false, map, sym, subst, slice_index_or}
 use Rattle.med_value.specs.Datum.{datum}
 use Rattle.med_value.specs.declared.value.ColType.{ColType}
-use Rattle.fdw_api.specs.Scan.{Spec, params_fit, spec_of}
-use Rattle.fdw_api.specs.Calls.{Begins}
-use Rattle.fdw_api.specs.Wishes.{spec2_of}
+use Rattle.fdw_api.specs.Prelude.{Spec, params_fit, spec_of, Begins, spec2_of}
 use Rattle.fdw_api.proofs.LiftLemmas.{if_ok}
 use Rattle.sqlite.specs.Held.{state}
 use Rattle.sqlite_wrapper.specs.Boxes.{allows, sqlite_state}

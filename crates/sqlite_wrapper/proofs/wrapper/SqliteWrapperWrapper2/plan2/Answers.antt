@@ -1,7 +1,6 @@
 use Rattle.std.proofs.Common.{◌∙◌, List, map, ap}
 use Rattle.sqlite.specs.Held.{state}
-use Rattle.fdw_api.specs.Scan.{spec_by, restriction_form}
-use Rattle.fdw_api.specs.Wishes.{key_form, wish_form}
+use Rattle.fdw_api.specs.Prelude.{spec_by, restriction_form, key_form, wish_form}
 use Rattle.fdw_api.specs.declared.wishes.OrderKey.{OrderKey}
 use Rattle.sqlite_wrapper.specs.Boxes.{is_by_key}
 use Rattle.sqlite_wrapper.proofs.LiveScans.{sqlite_promises}
