@@ -73,7 +73,7 @@ impl Blobs for FaultyBlobs {
         self.inner.read(alloc, name)
     }
 
-    fn replace(&mut self, alloc: Global, name: &str, bytes: &[u8]) -> Result<(), BlobFault> {
+    fn replace(&mut self, alloc: Global, name: &str, pieces: &[&[u8]]) -> Result<(), BlobFault> {
         if self.failures == u64::MAX {
             return Err(BlobFault::Worn);
         }
@@ -81,7 +81,7 @@ impl Blobs for FaultyBlobs {
             self.failures += 1;
             return Err(BlobFault::Device);
         }
-        self.inner.replace(alloc, name, bytes)
+        self.inner.replace(alloc, name, pieces)
     }
 
     fn failures(&self) -> u64 {

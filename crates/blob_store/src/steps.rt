@@ -1,7 +1,8 @@
 //! How a file is replaced: by a draft beside it, that is synced and then renamed.
 ghost use Rattle.std.specs.Prelude.{◌≡◌, ◌≢◌, ◌↔◌, Some, IsTrue};
+ghost use Rattle.blob_store.specs.Shelves.{joined};
 ghost use Rattle.blob_store.specs.Known.{KnownBoth, Sure};
-ghost use Rattle.blob_store.specs.Drives.{IsIn, IsInHeld};
+ghost use Rattle.blob_store.specs.Drives.{IsDraft, IsIn, IsInHeld, Writes};
 ghost use Rattle.blob_store.specs.Files.{IsReady, FillsOrNot, put_fault, MayBeWritten, IsUnchanged, LooksOver, Starts, Lands, PutsOrNot};
 
 use crate::disk::{Disk, DiskFault, Kind, Stamp, Told};
@@ -29,13 +30,29 @@ impl From<DiskFault> for PutFault {
     }
 }
 
+// Writes pieces, one behind the other, to the draft.
+fn write_pieces<D: Disk>(disk: &mut D, draft: &str, pieces: &[&[u8]]) -> Result<(), DiskFault>
+    requires { Sure (D.drive disk.old) (λ d. IsDraft d draft.now) }
+    ensures { KnownBoth (D.drive disk.old) (D.drive disk.new) (λ old new. Writes old new draft.now (joined pieces.now) result) }
+{
+    for piece in pieces {
+        disk.write(draft, piece)?;
+    }
+    Ok(())
+}
+
 // Writes and syncs the draft, and puts it in the place of the file.
-fn fill<D: Disk>(disk: &mut D, draft: &str, path: &str, bytes: &[u8]) -> Result<Stamp, DiskFault>
+fn fill<D: Disk>(
+    disk: &mut D,
+    draft: &str,
+    path: &str,
+    pieces: &[&[u8]],
+) -> Result<Stamp, DiskFault>
     requires ready { Sure (D.drive disk.old) (λ d. IsReady d draft.now path.now) }
     requires apart { draft.now ≢ path.now }
-    ensures { KnownBoth (D.drive disk.old) (D.drive disk.new) (λ old new. FillsOrNot old new draft.now path.now bytes.now result) }
+    ensures { KnownBoth (D.drive disk.old) (D.drive disk.new) (λ old new. FillsOrNot old new draft.now path.now (joined pieces.now) result) }
 {
-    disk.write(draft, bytes)?;
+    write_pieces(disk, draft, pieces)?;
     let told = disk.sync(draft)?;
     disk.rename(draft, path)?;
     Ok(told.stamp)
@@ -96,13 +113,13 @@ fn start_draft<D: Disk>(
 }
 
 // Writes the draft and puts it in the place of the file, or removes it.
-fn land<D: Disk>(disk: &mut D, draft: &str, path: &str, bytes: &[u8]) -> Result<Stamp, PutFault>
+fn land<D: Disk>(disk: &mut D, draft: &str, path: &str, pieces: &[&[u8]]) -> Result<Stamp, PutFault>
     requires ready { Sure (D.drive disk.old) (λ d. IsReady d draft.now path.now) }
     requires draft_in { Sure (D.drive disk.old) (λ d. IsInHeld d draft.now) }
     requires apart { draft.now ≢ path.now }
-    ensures { KnownBoth (D.drive disk.old) (D.drive disk.new) (λ old new. Lands old new draft.now path.now bytes.now result) }
+    ensures { KnownBoth (D.drive disk.old) (D.drive disk.new) (λ old new. Lands old new draft.now path.now (joined pieces.now) result) }
 {
-    match fill(disk, draft, path, bytes) {
+    match fill(disk, draft, path, pieces) {
         Ok(stamp) => {
             // (where it fails the file is replaced all the same)
             let _ = disk.settle();
@@ -115,13 +132,13 @@ fn land<D: Disk>(disk: &mut D, draft: &str, path: &str, bytes: &[u8]) -> Result<
     }
 }
 
-// Puts these bytes in the place of a file of the folder that is held.
+// Puts the bytes of these pieces in the place of a file of the folder that is held.
 fn put_held<D: Disk>(
     disk: &mut D,
     draft: &str,
     path: &str,
     mark: Mark,
-    bytes: &[u8],
+    pieces: &[&[u8]],
     locked: bool,
 ) -> Result<Stamp, PutFault>
     requires locked { Sure (D.drive disk.old) (λ d. d.locked ≡ locked) }
@@ -129,14 +146,14 @@ fn put_held<D: Disk>(
     requires path_in { Sure (D.drive disk.old) (λ d. IsInHeld d path.now) }
     requires apart { draft.now ≢ path.now }
     ensures { KnownBoth (D.drive disk.old) (D.drive disk.new)
-        (λ old new. PutsOrNot old new draft.now path.now mark bytes.now result) }
+        (λ old new. PutsOrNot old new draft.now path.now mark (joined pieces.now) result) }
 {
     let told = look_over(disk, path, mark)?;
     start_draft(disk, draft, told, locked)?;
-    land(disk, draft, path, bytes)
+    land(disk, draft, path, pieces)
 }
 
-/// Puts these bytes in the place of a file, whole or not at all, and holds its folder meanwhile.
+/// Puts the bytes of these pieces in the place of a file, whole or not at all, and holds its folder meanwhile.
 ///
 /// They are written to a draft beside it, which has the rights of the file, is synced and is then renamed; and then the folder is synced.
 /// A draft that another program left is removed first, where the folder can be locked.
@@ -151,16 +168,16 @@ pub fn put_file<D: Disk>(
     draft: &str,
     path: &str,
     mark: Mark,
-    bytes: &[u8],
+    pieces: &[&[u8]],
 ) -> Result<Stamp, PutFault>
     requires draft_in { IsIn (Some folder.now) draft.now }
     requires path_in { IsIn (Some folder.now) path.now }
     requires apart { draft.now ≢ path.now }
     ensures done { KnownBoth (D.drive disk.old) (D.drive disk.new)
-        (λ old new. PutsOrNot old new draft.now path.now mark bytes.now result) }
+        (λ old new. PutsOrNot old new draft.now path.now mark (joined pieces.now) result) }
 {
     let locked = disk.hold(folder)?;
-    let put = put_held(disk, draft, path, mark, bytes, locked);
+    let put = put_held(disk, draft, path, mark, pieces, locked);
     disk.release();
     match put {
         Ok(stamp) => Ok(stamp),

@@ -19,7 +19,7 @@ use csv_tables::written::{Written, apply_changes};
 use fdw_api::interface::{Fault, TableOption};
 use fdw_api::scan::{Agree, Restriction, ScanSpec};
 use med_value::{ColumnDef, Comparison, NoMemory, Row, Value};
-use place_wrapper::PlacedTable;
+use place_wrapper::{PlacedTable, Unwritten};
 use std::alloc::Global;
 use wrapper_parts::{RowChange, Sought, value_at};
 
@@ -34,7 +34,15 @@ pub struct CsvPlaces {
 
 /// A CSV table after changes, and the image that is read again as it.
 #[derive(Drop)]
+pub(crate) struct Changed {
+    after: CsvPlaces,
+    image: Vec<u8>,
+}
+
+/// A CSV table of which a write is under way: as it was, and after its changes.
+#[derive(Drop)]
 pub struct CsvDraft {
+    before: CsvPlaces,
     after: CsvPlaces,
     image: Vec<u8>,
 }
@@ -152,6 +160,45 @@ fn found_comes(
     comes(alloc, table, at, spec, params)
 }
 
+impl CsvPlaces {
+    ghost use Rattle.std.specs.Prelude.{IfErr};
+    ghost use Rattle.std.specs.List.{list_all};
+    ghost use Rattle.fdw_api.specs.Prelude.{row_of_change_fits};
+    ghost use Rattle.wrapper_parts.specs.Staged.{change_is};
+    ghost use Rattle.place_wrapper.specs.Forms.{Rewrites, RefusesChanges};
+    ghost use Rattle.csv_wrapper.specs.Places.{csv_form};
+
+    // The table after changes, and its image.
+    fn changed(&self, alloc: Global, changes: Vec<RowChange>) -> Result<Changed, Fault>
+        requires { list_all (row_of_change_fits (csv_form.bound self.now).kinds) (map change_is changes.items) ≡ true }
+        ensures ok { IfOk result (λ made. Rewrites csv_form self.now (map change_is changes.items) made.after made.image.items) }
+        ensures err { IfErr result (λ fault. RefusesChanges csv_form self.now (map change_is changes.items) fault) }
+    {
+        let remote = self.table.remote.as_str().to_string(alloc)?;
+        let layout = self.table.layout.copy(alloc)?;
+        let rises = stays_rising(alloc, &self.table, self.rises, &changes);
+        let written = match apply_changes(alloc, &self.table, changes) {
+            Ok(written) => written,
+            Err(fault) => return Err(fault),
+        };
+        let Written {
+            header,
+            rows,
+            image,
+        } = written;
+        let table = CsvTable {
+            remote,
+            layout,
+            header,
+            rows,
+        };
+        Ok(Changed {
+            after: CsvPlaces { table, rises },
+            image,
+        })
+    }
+}
+
 impl PlacedTable for CsvPlaces {
     type Draft = CsvDraft;
 
@@ -159,7 +206,9 @@ impl PlacedTable for CsvPlaces {
 
     ghost form = { csv_form };
 
-    ghost drafted = { λ draft. draft.after };
+    ghost makes = { λ draft t. t ≡ draft.after };
+
+    ghost leaves = { λ draft t. t ≡ draft.before };
 
     ghost image_of = { λ draft. draft.image.items };
 
@@ -239,36 +288,30 @@ impl PlacedTable for CsvPlaces {
         self.table.value(alloc, at, column)
     }
 
-    fn rewritten(&self, alloc: Global, changes: Vec<RowChange>) -> Result<CsvDraft, Fault> {
-        let remote = self.table.remote.as_str().to_string(alloc)?;
-        let layout = self.table.layout.copy(alloc)?;
-        let rises = stays_rising(alloc, &self.table, self.rises, &changes);
-        let written = match apply_changes(alloc, &self.table, changes) {
-            Ok(written) => written,
-            Err(fault) => return Err(fault),
-        };
-        let Written {
-            header,
-            rows,
-            image,
-        } = written;
-        let table = CsvTable {
-            remote,
-            layout,
-            header,
-            rows,
-        };
-        Ok(CsvDraft {
-            after: CsvPlaces { table, rises },
-            image,
-        })
+    fn rewritten(
+        self,
+        alloc: Global,
+        changes: Vec<RowChange>,
+    ) -> Result<CsvDraft, Unwritten<CsvPlaces>> {
+        match self.changed(alloc, changes) {
+            Ok(Changed { after, image }) => Ok(CsvDraft {
+                before: self,
+                after,
+                image,
+            }),
+            Err(fault) => Err(Unwritten { table: self, fault }),
+        }
     }
 
-    fn image(draft: &CsvDraft) -> &[u8] {
-        &draft.image
+    fn image<'a>(alloc: Global, draft: &'a CsvDraft) -> Result<Vec<&'a [u8]>, NoMemory> {
+        Ok(vec![in alloc; draft.image.as_slice()]?)
     }
 
-    fn into_table(draft: CsvDraft) -> CsvPlaces {
+    fn kept(draft: CsvDraft) -> CsvPlaces {
         draft.after
+    }
+
+    fn given_up(draft: CsvDraft) -> CsvPlaces {
+        draft.before
     }
 }

@@ -13,11 +13,12 @@ use crate::known::{known_cell, takes_known};
 use crate::lines::{is_image, line_at};
 use crate::made::LinesWritten;
 use crate::rewrite::rewritten;
+use crate::rises::{marked, stays_rising};
 use crate::table::JsonTable;
 use fdw_api::interface::{Fault, TableOption};
 use fdw_api::scan::{Agree, Restriction, ScanSpec, Test};
 use med_value::{ColType, ColumnDef, NoMemory, Row, Value};
-use place_wrapper::PlacedTable;
+use place_wrapper::{PlacedTable, Unwritten};
 use std::alloc::Global;
 use wrapper_parts::{RowChange, Sought, takes};
 
@@ -126,16 +127,58 @@ fn answer_on(kind: Option<ColType>, test: &Test) -> Agree
     }
 }
 
+/// A table of which a write is under way: as it was, and as it is to be.
+#[derive(Drop)]
+pub struct JsonDraft {
+    before: JsonTable,
+    after: JsonTable,
+}
+
+impl JsonTable {
+    ghost use Rattle.std.specs.Prelude.{true, map, IfErr};
+    ghost use Rattle.std.specs.List.{list_all};
+    ghost use Rattle.fdw_api.specs.Writes.{row_of_change_fits};
+    ghost use Rattle.wrapper_parts.specs.Staged.{change_is};
+    ghost use Rattle.place_wrapper.specs.Forms.{Rewrites, RefusesChanges};
+    ghost use Rattle.jsonl_wrapper.specs.Formats.{json_form};
+
+    // The table after changes, whose content is its image.
+    fn changed(&self, alloc: Global, changes: Vec<RowChange>) -> Result<JsonTable, Fault>
+        requires { list_all (row_of_change_fits (json_form.bound self.now).kinds) (map change_is changes.items) ≡ true }
+        ensures ok { IfOk result (λ t. Rewrites json_form self.now (map change_is changes.items) t t.content.items) }
+        ensures err { IfErr result (λ fault. RefusesChanges json_form self.now (map change_is changes.items) fault) }
+    {
+        let remote = self.remote.as_str().to_string(alloc)?;
+        let fields = copy_fields(alloc, &self.fields)?;
+        let rises = stays_rising(self, &changes);
+        let LinesWritten { image, wholes } = match rewritten(alloc, self, changes) {
+            Ok(made) => made,
+            Err(fault) => return Err(fault),
+        };
+        Ok(JsonTable {
+            remote,
+            fields,
+            content: image.content,
+            lines: image.lines,
+            is_image: true,
+            wholes,
+            rises,
+        })
+    }
+}
+
 impl PlacedTable for JsonTable {
     ghost use Rattle.jsonl_wrapper.specs.Formats.{json_form};
 
-    type Draft = JsonTable;
+    type Draft = JsonDraft;
 
     ghost form = { json_form };
 
-    ghost drafted = { λ t. t };
+    ghost makes = { λ draft t. t ≡ draft.after };
 
-    ghost image_of = { λ t. t.content.items };
+    ghost leaves = { λ draft t. t ≡ draft.before };
+
+    ghost image_of = { λ draft. draft.after.content.items };
 
     fn read(
         alloc: Global,
@@ -151,14 +194,16 @@ impl PlacedTable for JsonTable {
         };
         let remote = remote.to_string(alloc)?;
         let is_image = is_image(&content, &spans);
-        Ok(JsonTable {
+        let table = JsonTable {
             remote,
             fields,
             content,
             lines: spans,
             is_image,
             wholes,
-        })
+            rises: false,
+        };
+        Ok(marked(table))
     }
 
     fn remote(&self) -> &str {
@@ -167,6 +212,10 @@ impl PlacedTable for JsonTable {
 
     fn count(&self) -> usize {
         self.lines.len()
+    }
+
+    fn rises(&self) -> bool {
+        self.rises
     }
 
     fn answer(&self, restriction: &Restriction) -> Agree {
@@ -199,28 +248,29 @@ impl PlacedTable for JsonTable {
         cell_at(alloc, self, at, column)
     }
 
-    fn rewritten(&self, alloc: Global, changes: Vec<RowChange>) -> Result<JsonTable, Fault> {
-        let remote = self.remote.as_str().to_string(alloc)?;
-        let fields = copy_fields(alloc, &self.fields)?;
-        let LinesWritten { image, wholes } = match rewritten(alloc, self, changes) {
-            Ok(made) => made,
-            Err(fault) => return Err(fault),
-        };
-        Ok(JsonTable {
-            remote,
-            fields,
-            content: image.content,
-            lines: image.lines,
-            is_image: true,
-            wholes,
-        })
+    fn rewritten(
+        self,
+        alloc: Global,
+        changes: Vec<RowChange>,
+    ) -> Result<JsonDraft, Unwritten<JsonTable>> {
+        match self.changed(alloc, changes) {
+            Ok(after) => Ok(JsonDraft {
+                before: self,
+                after,
+            }),
+            Err(fault) => Err(Unwritten { table: self, fault }),
+        }
     }
 
-    fn image(draft: &JsonTable) -> &[u8] {
-        &draft.content
+    fn image<'a>(alloc: Global, draft: &'a JsonDraft) -> Result<Vec<&'a [u8]>, NoMemory> {
+        Ok(vec![in alloc; draft.after.content.as_slice()]?)
     }
 
-    fn into_table(draft: JsonTable) -> JsonTable {
-        draft
+    fn kept(draft: JsonDraft) -> JsonTable {
+        draft.after
+    }
+
+    fn given_up(draft: JsonDraft) -> JsonTable {
+        draft.before
     }
 }

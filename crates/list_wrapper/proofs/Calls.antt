@@ -18,8 +18,8 @@ use Rattle.list_wrapper.specs.declared.changes.ListWrite.{ListWrite}
 use Rattle.list_wrapper.specs.Lists.{listed, rows_fit}
 use Rattle.list_wrapper.specs.declared.scans.Step.{Step}
 use Rattle.list_wrapper.specs.declared.scans.Walk.{Walk}
-use Rattle.list_wrapper.specs.declared.scans.Walk.TheVariants.{InTurn, ByIndex, ByKeys}
-use Rattle.list_wrapper.specs.Scans.{numbered, spec_is, params_of, left_by_keys, rows_ahead, rows_to_come, rows_at, listed_kinds, kinds_at, marked_bound, scan_is, scan_rows, mapped, list_state, NextIs, one_less, index_of, index_in, newer, ScanFits, ScansFit}
+use Rattle.list_wrapper.specs.declared.scans.Walk.TheVariants.{InTurn, Within, ByIndex, ByKeys}
+use Rattle.list_wrapper.specs.Scans.{numbered, spec_is, params_of, left_by_keys, rows_ahead, rows_to_come, rows_at, listed_kinds, kinds_at, marked_bound, scan_is, scan_rows, mapped, list_state, NextIs, one_less, index_of, index_in, newer, Bounds, ScanFits, ScansFit}
 use Rattle.wrapper_parts.specs.declared.index.PlaceIndex.{PlaceIndex}
 use Rattle.wrapper_parts.specs.Scans.{is_taken, rows_at_places as rows_of_places, Serves, Stands}
 use Rattle.list_wrapper.proofs.Numbered.{numbered_fit}
@@ -167,6 +167,7 @@ places_fit kinds (p ∷ ps) rows e = first (drop p rows) (rest_fit kinds p rows 
 
 left_typed : (kinds : List ColType) (spec : Spec) (params : Tuple) (rows : List TableRow) (walk : Walk) (at : ℕ) → ShowsTyped → list_all (λ r. row_fits kinds r.cells) rows ≡ true → list_all (λ r. shown_fits kinds spec r.cells) (map (given_row spec) (rows_ahead spec params rows walk at)) ≡ true
 left_typed kinds spec params rows InTurn at shows e = shown_typed kinds spec params (drop at rows) shows (rest_fit kinds at rows e)
+left_typed kinds spec params rows (Within span) at shows e = shown_typed kinds spec params (drop at rows) shows (rest_fit kinds at rows e)
 left_typed kinds spec params rows (ByIndex x) at shows e = shown_typed kinds spec params (drop at rows) shows (rest_fit kinds at rows e)
 left_typed kinds spec params rows (ByKeys places) at shows e = shown_all kinds spec (left_by_keys places.items rows at) shows (places_fit kinds (drop at places.items) rows e)
 
@@ -272,8 +273,9 @@ ends_fitting tables m n number old u q s e = split (eqb_tells q number)
 
 -- a scan that is begun again stands at the beginning, on its own walk or a new one
 pub starts_fitting : (rows : List TableRow) (spec : Spec) (params : Tuple) (walk : Option Walk) (old : Walk) → Serves spec rows (index_of old) → Serves spec rows (index_in walk)
-    → Serves spec rows (index_of (newer walk old)) × Stands spec params rows 0 (index_of (newer walk old))
-starts_fitting rows spec params walk old was new = (serves walk new, λ x w i e k up. absurd (omega arith))
+    → Bounds spec params rows (newer walk old)
+    → Serves spec rows (index_of (newer walk old)) × Stands spec params rows 0 (index_of (newer walk old)) × Bounds spec params rows (newer walk old)
+starts_fitting rows spec params walk old was new bounds = (serves walk new, λ x w i e k up. absurd (omega arith), bounds)
   where
     serves : (walk : Option Walk) → Serves spec rows (index_in walk) → Serves spec rows (index_of (newer walk old))
     serves None new = was

@@ -34,12 +34,12 @@ cells_of : (rs : List Row) → map (λ r. r.cells) (map as_held rs) ≡ map tupl
 cells_of [] = refl
 cells_of (r ∷ rs) = ap (λ (l : List Tuple). tuple r ∷ l) (cells_of rs)
 
-set_there : (ts : List ListTable) (t : ℕ) (x y : ListTable) → slice_get ts t ≡ Some x → slice_get (slice_set ts t y) t ≡ Some y
+pub set_there : (ts : List ListTable) (t : ℕ) (x y : ListTable) → slice_get ts t ≡ Some x → slice_get (slice_set ts t y) t ≡ Some y
 set_there [] t x y e = search rules
 set_there (z ∷ ts) zero x y e = refl
 set_there (z ∷ ts) (suc t) x y e = set_there ts t x y e
 
-set_other : (ts : List ListTable) (t q : ℕ) (y : ListTable) → q ≢ t → slice_get (slice_set ts t y) q ≡ slice_get ts q
+pub set_other : (ts : List ListTable) (t q : ℕ) (y : ListTable) → q ≢ t → slice_get (slice_set ts t y) q ≡ slice_get ts q
 set_other [] t q y ne = refl
 set_other (z ∷ ts) zero zero y ne = absurd (ne refl)
 set_other (z ∷ ts) zero (suc q) y ne = refl

@@ -9,3 +9,5 @@ pub mod Tables
 pub mod NewLists
 pub mod Kept
 pub mod Closing
+pub mod RisingLists
+pub mod LoneDeletions

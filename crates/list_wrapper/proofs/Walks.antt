@@ -1,16 +1,17 @@
 -- How a scan goes from place to place, and that what it then has to give it may give.
-use Rattle.std.proofs.Common.{◌≡◌, ℕ, ◌+◌, ◌<◌, ◌≤◌, Bool, true, false, not, List, [], ◌∷◌, ◌++◌, Option, map, filter, length, drop, take, get_or, zero, suc, refl, ap, sym, ◌∙◌, arith, is_some, replicate}
+use Rattle.std.proofs.Common.{◌≡◌, ℕ, ◌+◌, ◌<◌, ◌≤◌, IsPermutation, IsSorted, None, rules, Bool, true, false, not, List, [], ◌∷◌, ◌++◌, Option, map, filter, length, drop, take, get_or, zero, suc, refl, ap, sym, ◌∙◌, subst, arith, is_some, replicate}
 use Rattle.std.proofs.lemmas.List.{drop_all, drop_more}
 use Rattle.std.proofs.lemmas.List.Sorted.{IsPermutation-filter_both, IsPermutation-trans, IsPermutation-append_left, All-permutation}
 use Rattle.std.proofs.lemmas.List.Elements.{filter_passes, All-weaker}
 use Rattle.med_value.specs.Datum.{Tuple, tuple}
 use Rattle.med_value.specs.declared.value.Row.{Row}
-use Rattle.fdw_api.specs.Prelude.{Spec, TableRow, IsComing, given_row, shown_cells, meets_exact, WishForm, all_exact, is_fair}
+use Rattle.fdw_api.specs.Prelude.{Spec, KeyForm, TableRow, row_cmp, IsComing, given_row, shown_cells, meets_exact, WishForm, all_exact, is_fair}
 use Rattle.wrapper_parts.specs.Scans.{is_taken, rows_taken, rows_at_places as rows_of_places}
 use Rattle.wrapper_parts.proofs.Taking.{takes_sound, takes_exact}
+use Rattle.list_wrapper.specs.declared.spans.Span.{Span}
 use Rattle.list_wrapper.specs.declared.scans.Walk.{Walk}
-use Rattle.list_wrapper.specs.declared.scans.Walk.TheVariants.{InTurn, ByIndex, ByKeys}
-use Rattle.list_wrapper.specs.Scans.{numbered, left_by_keys, rows_ahead, rows_to_come, Arranges}
+use Rattle.list_wrapper.specs.declared.scans.Walk.TheVariants.{InTurn, Within, ByIndex, ByKeys}
+use Rattle.list_wrapper.specs.Scans.{numbered, left_by_keys, rows_ahead, rows_to_come, Turns, Spans, Arranges, index_of}
 use Rattle.list_wrapper.proofs.Numbered.{next_numbered, length_numbered}
 use Rattle.list_wrapper.proofs.Calls.{first_map}
 use Rattle.fdw_api.specs.declared.scan.Agree.{Agree}
@@ -62,9 +63,10 @@ arranged_comes spec params rows walk h = record {
 
 -- whatever the limit
 pub other_limit : (spec : Spec) (params : Tuple) (rows : List TableRow) (walk : Walk) (limit : Option ℕ) → Arranges spec params rows walk → Arranges (record spec { limit = limit }) params rows walk
-other_limit spec params rows InTurn limit h = record { same = h.same; sorted = h.sorted }
-other_limit spec params rows (ByIndex x) limit h = record { same = h.same; sorted = h.sorted }
-other_limit spec params rows (ByKeys places) limit h = record { same = h.same; sorted = h.sorted }
+other_limit spec params rows InTurn limit h = record { same = h.same; sorted = h.sorted; bounds = h.bounds }
+other_limit spec params rows (Within span) limit h = record { same = h.same; sorted = h.sorted; bounds = h.bounds }
+other_limit spec params rows (ByIndex x) limit h = record { same = h.same; sorted = h.sorted; bounds = h.bounds }
+other_limit spec params rows (ByKeys places) limit h = record { same = h.same; sorted = h.sorted; bounds = h.bounds }
 
 -- what a wish and the answers to it promise is fair where every answer is Exact and the order is promised
 pub all_taken : (n : ℕ) → all_exact (replicate n Exact) ≡ true
@@ -74,3 +76,27 @@ all_taken (suc n) = all_taken n
 pub fair : (w : WishForm) (answers : List Agree) (limited : Bool) → all_exact answers ≡ true → limited ≡ is_some w.limit → is_fair w answers true limited ≡ true
 fair w answers false e l = refl
 fair w answers true e l = rw (← l, e) refl
+
+-- a walk in list order is one for a scan without an order
+in_order : (keys : List KeyForm) (rows : List TableRow) → keys ≡ [] → IsSorted (row_cmp keys) rows
+in_order keys rows e = rw e (λ k d low lt. refl)
+
+same_all : (rows : List TableRow) → IsPermutation rows rows
+same_all rows = search rules
+
+pub turns_arrange : (spec : Spec) (keys : List KeyForm) (limit : Option ℕ) (params : Tuple) (rows : List TableRow) (walk : Walk) → keys ≡ []
+    → Turns spec params rows walk → Arranges (record spec { order = keys; limit = limit }) params rows walk
+turns_arrange spec keys limit params rows InTurn e h = record { same = same_all (rows_taken spec params rows); sorted = in_order keys (rows_taken spec params rows) e; bounds = λ span is. absurd cc }
+turns_arrange spec keys limit params rows (Within span) e h = record {
+  same = same_all (rows_taken spec params rows);
+  sorted = in_order keys (rows_taken spec params rows) e;
+  bounds = λ other is. let same : span ≡ other = cc in subst (λ (z : Span). Spans spec params rows z.first z.end) same h;
+}
+turns_arrange spec keys limit params rows (ByIndex x) e h = absurd h
+turns_arrange spec keys limit params rows (ByKeys places) e h = absurd h
+
+pub turns_plainly : (spec : Spec) (params : Tuple) (rows : List TableRow) (walk : Walk) → Turns spec params rows walk → index_of walk ≡ None
+turns_plainly spec params rows InTurn h = refl
+turns_plainly spec params rows (Within span) h = refl
+turns_plainly spec params rows (ByIndex x) h = absurd h
+turns_plainly spec params rows (ByKeys places) h = absurd h

@@ -1,4 +1,5 @@
 pub mod Lists
 pub mod Changes
+pub mod Ordered
 pub mod Scans
 pub mod ListBoxes

@@ -7,7 +7,7 @@ use Rattle.std.specs.BTreeMap.{BTreeMap}
 use Rattle.std.specs.String.{string_bytes}
 use Rattle.std.specs.declared.cmp.Ordering.{Ordering}
 use Rattle.std.specs.declared.cmp.Ordering.TheVariants.{Equal}
-use Rattle.med_value.specs.Prelude.{Tuple, datum, tuple, cell, key_cmp}
+use Rattle.med_value.specs.Prelude.{Datum, Tuple, datum, tuple, cell, key_cmp}
 use Rattle.med_value.specs.declared.value.Row.{Row}
 use Rattle.fdw_api.specs.Prelude.{Spec, KeyForm, spec_of, TableRow, GivenRow, given_row, first_of, row_cmp, key_form, Entry, Stored, Known, as_they_come, Nature, BoxTable, Scan, Staging, Ledger, Content, BoxState, row_of, row_of_change_fits}
 use Rattle.med_value.specs.declared.value.ColType.{ColType}
@@ -16,9 +16,11 @@ use Rattle.wrapper_parts.specs.declared.index.PlaceIndex.{PlaceIndex}
 use Rattle.wrapper_parts.specs.Scans.{is_taken, rows_taken, rows_at_places as rows_of_places, Serves, Stands}
 use Rattle.list_wrapper.specs.declared.list.ListTable.{ListTable}
 use Rattle.list_wrapper.specs.declared.scans.ListScan.{ListScan}
+use Rattle.list_wrapper.specs.Ordered.{AreOrdered, ordered_once}
+use Rattle.list_wrapper.specs.declared.spans.Span.{Span}
 use Rattle.list_wrapper.specs.declared.scans.Step.{Step}
 use Rattle.list_wrapper.specs.declared.scans.Walk.{Walk}
-use Rattle.list_wrapper.specs.declared.scans.Walk.TheVariants.{InTurn, ByIndex, ByKeys}
+use Rattle.list_wrapper.specs.declared.scans.Walk.TheVariants.{InTurn, Within, ByIndex, ByKeys}
 use Rattle.list_wrapper.specs.declared.changes.ListWrite.{ListWrite}
 use Rattle.list_wrapper.specs.Lists.{entry_of, listed, list_kind, list_image, list_refusals, no_line}
 use Rattle.list_wrapper.specs.Changes.{write_is}
@@ -27,6 +29,10 @@ use Rattle.list_wrapper.specs.Changes.{write_is}
 abbrev pub numbered : ℕ → List Row → List TableRow
 numbered n [] = []
 numbered n (r ∷ rs) = record { id = n; cells = tuple r; origin = [] } ∷ numbered (n + 1) rs
+
+-- the first cells of rows
+abbrev pub keys_of : List Row → List Datum
+keys_of rows = map (λ r. cell (tuple r) 0) rows
 
 -- what a scan was asked for, with what is promised of it
 abbrev pub spec_is : ListScan → Spec
@@ -50,6 +56,7 @@ left_by_keys places rows at = rows_of_places (drop at places) rows
 -- what of a table's rows a scan that goes by this walk takes and has not passed yet
 abbrev pub rows_ahead : Spec → Tuple → List TableRow → Walk → ℕ → List TableRow
 rows_ahead spec params rows InTurn at = left_in_turn spec params rows at
+rows_ahead spec params rows (Within span) at = left_in_turn spec params rows at
 rows_ahead spec params rows (ByIndex x) at = left_in_turn spec params rows at
 rows_ahead spec params rows (ByKeys places) at = left_by_keys places.items rows at
 
@@ -58,10 +65,29 @@ abbrev pub cells_cmp : List KeyForm → Tuple → Tuple → Ordering
 cells_cmp [] = λ a b. Equal
 cells_cmp (k ∷ ks) = then_cmp (on (λ c. cell c k.column) (key_cmp k.descending k.nulls_first)) (cells_cmp ks)
 
+-- a scan takes no row before a first place, and none from an end on
+abbrev pub Spans : Spec → Tuple → List TableRow → ℕ → ℕ → Type 0
+Spans spec params rows first end =
+    ((k : ℕ) (r : TableRow) → k < first → slice_get rows k ≡ Some r → is_taken spec params r ≡ false)
+    × ((k : ℕ) (r : TableRow) → end ≤ k → slice_get rows k ≡ Some r → is_taken spec params r ≡ false)
+    × (end ≤ length rows)
+
+-- a walk within places passes over no row that its scan takes
+abbrev pub Bounds : Spec → Tuple → List TableRow → Walk → Type 0
+Bounds spec params rows walk = (span : Span) → walk ≡ Within span → Spans spec params rows span.first span.end
+
+-- a walk is in list order without an index, over all places or within those over which its scan has to go
+abbrev pub Turns : Spec → Tuple → List TableRow → Walk → Type 0
+Turns spec params rows InTurn = Unit {0}
+Turns spec params rows (Within span) = Spans spec params rows span.first span.end
+Turns spec params rows (ByIndex x) = ⊥
+Turns spec params rows (ByKeys places) = ⊥
+
 -- a scan that begins may go by a walk: it has all rows that the scan takes, in an order that the promised keys allow
 pub record Arranges (spec : Spec) (params : Tuple) (rows : List TableRow) (walk : Walk) : Type 0 where
   pub same : IsPermutation (rows_taken spec params rows) (rows_ahead spec params rows walk 0)
   pub sorted : IsSorted (row_cmp spec.order) (rows_ahead spec params rows walk 0)
+  pub bounds : Bounds spec params rows walk
 
 -- what a scan has still to give: those, each as the scan shows it, and no more of them than may still come
 abbrev pub rows_to_come : Spec → Tuple → List TableRow → Walk → ℕ → Option ℕ → List GivenRow
@@ -90,6 +116,7 @@ NextIs spec params rows walk = NextOf spec (rows_ahead spec params rows walk)
 -- the index by which a scan goes
 abbrev pub index_of : Walk → Option PlaceIndex
 index_of InTurn = None
+index_of (Within span) = None
 index_of (ByIndex x) = Some x
 index_of (ByKeys places) = None
 
@@ -108,10 +135,11 @@ pub record Moves (spec : Spec) (params : Tuple) (rows : List TableRow) (index : 
   pub same : left_in_turn spec params rows at ≡ left_in_turn spec params rows to
   pub on : to < length rows → Stands spec params rows (to + 1) index
 
--- the index of a scan is of its table's rows, and it stands where its index goes on
+-- the index of a scan is of its table's rows, it stands where its index goes on, and no row that it takes is outside the places of its walk
 abbrev pub ScanFits : List Row → ListScan → Type 0
 ScanFits rows s =
     Serves (spec_is s) (numbered 0 rows) (index_of s.walk) × Stands (spec_is s) (params_of s) (numbered 0 rows) s.at (index_of s.walk)
+    × Bounds (spec_is s) (params_of s) (numbered 0 rows) s.walk
 
 -- its index goes on behind a row that it gives
 abbrev pub StandsAfter : List Row → ListScan → Option Step → Type 0
@@ -134,6 +162,15 @@ listed_rows (Some t) = t.rows.items
 
 abbrev pub rows_at : List ListTable → ℕ → List Row
 rows_at tables t = listed_rows (slice_get tables t)
+
+-- where a table is marked as rising, the cells of its first column rise
+abbrev pub Rises : List ListTable → List Bool → Type 0
+Rises tables rising = (t k later : ℕ) → slice_index_or rising t false ≡ true → k ≤ later → later < length (rows_at tables t)
+    → AreOrdered (cell (keys_of (rows_at tables t)) k) (cell (keys_of (rows_at tables t)) later)
+
+-- that they do is a fact
+pub rises_once : (tables : List ListTable) (rising : List Bool) → IsProp (Rises tables rising)
+rises_once tables rising = λ f g i t k later marked le lt. ordered_once _ _ (f t k later marked le lt) (g t k later marked le lt) i
 
 abbrev pub ScansFit : List ListTable → BTreeMap ℕ ListScan → Type 0
 ScansFit tables scans = (q : ℕ) (s : ListScan) → tree.get nat_cmp scans q ≡ Some s → ScanFits (rows_at tables s.table) s

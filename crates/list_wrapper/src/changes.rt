@@ -3,12 +3,14 @@ ghost use Rattle.std.specs.Prelude.{◌≡◌, ◌<◌, ◌≤◌, ◌+◌, ◌+
 ghost use Rattle.std.specs.List.{count_by, list_any};
 ghost use Rattle.std.specs.Vec.{vec_len, vec_capacity};
 ghost use Rattle.med_value.specs.declared.value.Row.{Row};
-ghost use Rattle.fdw_api.specs.Writes.{rows_after};
+ghost use Rattle.fdw_api.specs.Prelude.{Deletes, rows_after};
 ghost use Rattle.med_value.specs.Limits.{row_limit};
 ghost use Rattle.list_wrapper.specs.Lists.{no_line};
-ghost use Rattle.list_wrapper.specs.Scans.{numbered};
+ghost use Rattle.wrapper_parts.specs.Rising.{AreRising};
+ghost use Rattle.list_wrapper.specs.Scans.{numbered, keys_of};
 ghost use Rattle.list_wrapper.specs.Changes.{change_is, write_is, with_change, broken_write, as_held, is_insert, is_delete, is_yes, gone_after, row_changed, fresh_rows, stay, StandsFor};
 
+use crate::rises::stays_rising;
 use fdw_api::interface::Fault;
 use med_value::limits::ROW_LIMIT;
 use med_value::{Cause, NoMemory, Row};
@@ -204,12 +206,15 @@ fn take_out(rows: &mut Vec<Row>, gone: &[bool])
 }
 
 /// Makes staged changes where the rows stand: those that are left in list order, and then the new ones. All that can fail comes first.
-pub(crate) fn apply(
+/// The mark whether they rise comes of the changes alone.
+fn apply_all(
     alloc: Global,
     rows: &mut Vec<Row>,
+    rises: &mut bool,
     changes: Vec<ListChange>,
 ) -> Result<(), Fault>
     ensures ok { OnOk result (map as_held rows.new.items ≡ rows_after no_line (numbered 0 rows.old.items) (map change_is changes.items)) }
+    ensures rises { (rises.old ≡ true → AreRising (keys_of rows.old.items)) → rises.new ≡ true → AreRising (keys_of rows.new.items) }
     ensures few { OnOk result (length rows.new.items ≤ row_limit) }
     ensures same { OnErr result (rows.new.items ≡ rows.old.items) }
     ensures err { IfErr result (λ fault. StandsFor fault (rows_after no_line (numbered 0 rows.old.items) (map change_is changes.items))) }
@@ -221,7 +226,44 @@ pub(crate) fn apply(
         return Err(Fault::Refused(Cause::TooLarge));
     }
     rows.reserve(fresh)?;
+    *rises = stays_rising(rows, *rises, &changes);
     write_rows(rows, changes);
     take_out(rows, &gone);
     Ok(())
+}
+
+/// The place of the row that changes take out, if they are this deletion alone, and the rows no more than may stay.
+fn lone_deletion(count: usize, changes: &[ListChange]) -> Option<usize>
+    ensures { IfSome result (λ at. (at < count) × (count ≤ row_limit) × (map change_is changes.now ≡ Deletes at ∷ [])) }
+{
+    if count > ROW_LIMIT || changes.len() != 1 {
+        return None;
+    }
+    match &changes[0] {
+        ListChange::Delete(id) if *id < count as u64 => Some(*id as usize),
+        _ => None,
+    }
+}
+
+/// Makes staged changes where the rows stand, as `apply_all` does. A deletion alone takes its row out, with no look at the others: those
+/// behind it move up as one block.
+pub(crate) fn apply(
+    alloc: Global,
+    rows: &mut Vec<Row>,
+    rises: &mut bool,
+    changes: Vec<ListChange>,
+) -> Result<(), Fault>
+    ensures ok { OnOk result (map as_held rows.new.items ≡ rows_after no_line (numbered 0 rows.old.items) (map change_is changes.items)) }
+    ensures rises { (rises.old ≡ true → AreRising (keys_of rows.old.items)) → rises.new ≡ true → AreRising (keys_of rows.new.items) }
+    ensures few { OnOk result (length rows.new.items ≤ row_limit) }
+    ensures same { OnErr result (rows.new.items ≡ rows.old.items) }
+    ensures err { IfErr result (λ fault. StandsFor fault (rows_after no_line (numbered 0 rows.old.items) (map change_is changes.items))) }
+{
+    match lone_deletion(rows.len(), &changes) {
+        Some(at) => {
+            let _row = rows.remove(at);
+            Ok(())
+        }
+        None => apply_all(alloc, rows, rises, changes),
+    }
 }

@@ -3,7 +3,9 @@
 
 mod changes;
 pub mod list;
+mod rises;
 mod scans;
 mod sorting;
+mod spans;
 
 pub use list::{ListTable, ListWrapper};

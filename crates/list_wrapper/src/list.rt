@@ -9,10 +9,13 @@ ghost use Rattle.med_value.specs.Datum.{datum};
 ghost use Rattle.list_wrapper.specs.declared.list.ListTable.{ListTable};
 ghost use Rattle.list_wrapper.specs.Lists.{listed, entry_of, names_differ, rows_fit, IsNewList, types_match};
 ghost use Rattle.list_wrapper.specs.Changes.{write_is};
-ghost use Rattle.list_wrapper.specs.Scans.{entry_at, write_fits, ScansFit};
+ghost use Rattle.list_wrapper.specs.Scans.{entry_at, write_fits, Rises, rises_once, ScansFit};
 
 use crate::changes::{ListChange, ListWrite, add_change, apply};
-use crate::scans::{ListScan, advance, first_walk, new_walk, restart, row_of_scan, rows_of, spoil};
+use crate::rises::rising_tables;
+use crate::scans::{
+    ListScan, advance, first_walk, is_rising, new_walk, restart, row_of_scan, rows_of, spoil,
+};
 use fdw_api::interface::{Counts, Fault, RowId, SourceRow, TableOption, Ticket, Wrapper};
 use fdw_api::law::{rows_are_typed, writes_are_typed};
 use fdw_api::scan::{Agree, Agreement, Restriction, ScanSpec, copy_values};
@@ -37,19 +40,23 @@ pub struct ListTable {
 /// It answers `Fault::Source` never. Its kind is `list_kind`: the name of a table stands for it, and its columns may have any names.
 /// The number of a table is its place, and the id of a row is its place in its table. It takes over every restriction, and gives the
 /// wanted columns alone where it is asked to. A scan that looks for a parameter builds an index of that column when it is begun again, and
-/// goes from place to place by it until it ends, unless an order is promised. It promises each order that is wished, and each limit: a scan
-/// of which an order is promised sorts the places of the rows that it takes as it begins, and as it is begun again. A write that is kept
-/// leaves the rows that stay in list order, and then the new ones; over 1,000,000 rows it is refused by `Cause::TooLarge` (54000). A refused
-/// call uses no ticket number up.
+/// goes from place to place by it until it ends, unless an order is promised. Any other scan of a table whose first column rises goes only
+/// over the places of the keys for which it asks, found by halves, unless an order is promised. It promises each order that is wished, and
+/// each limit: a scan of which an order is promised sorts the places of the rows that it takes as it begins, and as it is begun again. A
+/// write that is kept leaves the rows that stay in list order, and then the new ones; over 1,000,000 rows it is refused by
+/// `Cause::TooLarge` (54000). Whether the first column still rises it tells by its changes. A refused call uses no ticket number up.
 #[derive(Drop)]
 pub struct ListWrapper {
     tables: Vec<ListTable>,
     bound: Vec<bool>,
+    rising: Vec<bool>,
     scans: BTreeMap<u64, ListScan>,
     staged: Option<ListWrite>,
     next: u64,
     pulled: u64,
     ghost marked: { length bound.items ≡ length tables.items },
+    ghost noted: { length rising.items ≡ length tables.items },
+    ghost rises: { Rises tables.items rising.items } by { rises_once tables.items rising.items },
     ghost distinct: { IsTrue (names_differ (map listed tables.items)) },
     ghost typed: { IsTrue (rows_fit (map listed tables.items)) },
     ghost fitting: { ScansFit tables.items scans },
@@ -73,9 +80,11 @@ impl ListWrapper {
         ensures no_objection { IfOk result (λ w. (columns : List Column) → (box_of w).nature.kind.objections columns [] ≡ []) }
     {
         let bound = vec![in alloc; false; tables.len()]?;
+        let rising = rising_tables(alloc, &tables)?;
         Ok(ListWrapper {
             tables,
             bound,
+            rising,
             scans: BTreeMap::new(alloc),
             staged: None,
             next: 0,
@@ -103,7 +112,15 @@ impl ListWrapper {
             return Err(Fault::Refused(Cause::LimitExceeded));
         }
         let table = t.number as usize;
-        let walk = first_walk(alloc, rows_of(&self.tables, table), spec, &order, params)?;
+        let rises = is_rising(&self.rising, table);
+        let walk = first_walk(
+            alloc,
+            rows_of(&self.tables, table),
+            rises,
+            spec,
+            &order,
+            params,
+        )?;
         let spec = spec.copy(alloc)?;
         let params = copy_values(alloc, params)?;
         let scan = ListScan {
@@ -261,7 +278,14 @@ impl Wrapper for ListWrapper {
             spoil(&mut self.scans, ticket.number);
             return Err(Fault::NoMemory);
         };
-        match new_walk(alloc, &self.tables, &self.scans, ticket.number, params) {
+        match new_walk(
+            alloc,
+            &self.tables,
+            &self.rising,
+            &self.scans,
+            ticket.number,
+            params,
+        ) {
             Err(_) => {
                 spoil(&mut self.scans, ticket.number);
                 Err(Fault::NoMemory)
@@ -313,7 +337,12 @@ impl Wrapper for ListWrapper {
         } = staged;
         let at = table as usize;
         writes_are_typed();
-        apply(alloc, &mut self.tables[at].rows, changes)
+        apply(
+            alloc,
+            &mut self.tables[at].rows,
+            &mut self.rising[at],
+            changes,
+        )
     }
 
     fn ledger(&self) -> Counts {

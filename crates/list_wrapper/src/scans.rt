@@ -1,15 +1,17 @@
 //! Live scans of lists, and the rows that they give.
-ghost use Rattle.std.specs.Prelude.{◌≡◌, true, None, map, option_map, IfOk, IfSome, IsSome, Some};
+ghost use Rattle.std.specs.Prelude.{◌≡◌, max, true, false, None, map, option_map, slice_index_or, IfOk, IfSome, IsSome, Some};
 ghost use Rattle.std.specs.Ordering.{nat_cmp};
 ghost use Rattle.std.specs.BTreeMap as tree;
 ghost use Rattle.med_value.specs.Datum.{datum, tuple, cell};
 ghost use Rattle.fdw_api.specs.Prelude.{restriction_form, spec_of, key_form};
 ghost use Rattle.wrapper_parts.specs.Scans.{Serves, Stands, sought, form_of, column_cells};
 ghost use Rattle.wrapper_parts.specs.Indexes.{IsIndexFrom};
-ghost use Rattle.list_wrapper.specs.Scans.{NextIs, NextOf, left_in_turn, left_by_keys, Arranges, is_spent, StandsAfter, Moves, ScanFits, spec_is, params_of, index_of, newer, index_in, one_less, numbered, rows_at};
+ghost use Rattle.wrapper_parts.specs.Rising.{AreRising};
+ghost use Rattle.list_wrapper.specs.Scans.{NextIs, NextOf, left_in_turn, left_by_keys, Arranges, Turns, Spans, Rises, is_spent, StandsAfter, Moves, ScanFits, spec_is, params_of, index_of, newer, index_in, one_less, numbered, keys_of, rows_at};
 
 use crate::list::ListTable;
 use crate::sorting::sorted_places;
+use crate::spans::{Span, span_of};
 use fdw_api::interface::{RowId, SourceRow};
 use fdw_api::scan::ScanSpec;
 use fdw_api::wishes::OrderKey;
@@ -23,6 +25,8 @@ use wrapper_parts::{PlaceIndex, Sought, sought_in, takes, value_at};
 pub(crate) enum Walk {
     /// In list order.
     InTurn,
+    /// In list order, over these places alone.
+    Within(Span),
     /// In list order, from place to place of the value that it looks for.
     ByIndex(PlaceIndex),
     /// From place to place in the order that is promised: those of the rows that it takes.
@@ -184,6 +188,40 @@ fn next_in_turn(alloc: Global, rows: &[Row], scan: &ListScan) -> Result<Option<S
     Ok(None)
 }
 
+/// The later of two places.
+fn later_of(at: usize, other: usize) -> usize
+    ensures { result ≡ max at other }
+{
+    if at < other { other } else { at }
+}
+
+/// The next row of a scan that goes over these places of a list, in its order.
+fn next_within(
+    alloc: Global,
+    rows: &[Row],
+    scan: &ListScan,
+    span: Span,
+) -> Result<Option<Step>, NoMemory>
+    requires { Spans (spec_is scan.now) (params_of scan.now) (numbered 0 rows.now) span.first span.end }
+    ensures { IfOk result (NextOf (spec_is scan.now) (left_in_turn (spec_is scan.now) (params_of scan.now) (numbered 0 rows.now))
+        scan.now.at None) }
+{
+    let found = sought_in(&scan.spec.offered);
+    let mut at = later_of(scan.at, span.first);
+    while at < span.end {
+        let here = &rows[at];
+        if takes(&scan.spec, found, &scan.params, here) {
+            let cells = scan.spec.show(alloc, here)?;
+            let id = RowId { number: at as u64 };
+            let row = SourceRow { id, cells };
+            let after = at + 1;
+            return Ok(Some(Step { row, after }));
+        }
+        at += 1;
+    }
+    Ok(None)
+}
+
 /// The next row of a scan that goes over these places.
 fn next_by_keys(
     alloc: Global,
@@ -223,6 +261,7 @@ fn next_row(alloc: Global, rows: &[Row], scan: &ListScan) -> Result<Option<Step>
     }
     match &scan.walk {
         Walk::InTurn => next_in_turn(alloc, rows, scan),
+        Walk::Within(span) => next_within(alloc, rows, scan, *span),
         Walk::ByIndex(_) => next_in_turn(alloc, rows, scan),
         Walk::ByKeys(places) => next_by_keys(alloc, rows, scan, places),
     }
@@ -267,20 +306,43 @@ pub(crate) fn row_of_scan(
     next_row(alloc, rows_of(tables, scan.table), scan)
 }
 
+/// Whether the table at a place is marked as rising.
+pub(crate) fn is_rising(rising: &[bool], at: usize) -> bool
+    ensures { result ≡ slice_index_or rising.now at false }
+{
+    match rising.get(at) {
+        Some(mark) => *mark,
+        None => false,
+    }
+}
+
+/// How a scan that needs no index goes over a list in its order: where the first column rises, over the places of its keys alone.
+fn turn_walk(rows: &[Row], rises: bool, spec: &ScanSpec, params: &[Value]) -> Walk
+    requires { rises ≡ true → AreRising (keys_of rows.now) }
+    ensures { Turns (spec_of spec.now) (map datum params.now) (numbered 0 rows.now) result }
+{
+    if !rises || spec.offered.is_empty() {
+        return Walk::InTurn;
+    }
+    Walk::Within(span_of(rows, spec, params))
+}
+
 /// How a scan that begins goes over a list.
 pub(crate) fn first_walk(
     alloc: Global,
     rows: &[Row],
+    rises: bool,
     spec: &ScanSpec,
     order: &[OrderKey],
     params: &[Value],
 ) -> Result<Walk, NoMemory>
+    requires { rises ≡ true → AreRising (keys_of rows.now) }
     ensures arranges { IfOk result (Arranges (record (spec_of spec.now) { order = map key_form order.now }) (map datum params.now)
         (numbered 0 rows.now)) }
     ensures no_index { IfOk result (λ walk. index_of walk ≡ None) }
 {
     if order.is_empty() {
-        return Ok(Walk::InTurn);
+        return Ok(turn_walk(rows, rises, spec, params));
     }
     Ok(Walk::ByKeys(sorted_places(alloc, rows, spec, order, params)?))
 }
@@ -289,11 +351,13 @@ pub(crate) fn first_walk(
 pub(crate) fn new_walk(
     alloc: Global,
     tables: &Vec<ListTable>,
+    rising: &[bool],
     scans: &BTreeMap<u64, ListScan>,
     number: u64,
     params: &[Value],
 ) -> Result<Option<Walk>, NoMemory>
-    requires { IsSome (tree.get nat_cmp scans.now number) }
+    requires live { IsSome (tree.get nat_cmp scans.now number) }
+    requires rises { Rises tables.now.items rising.now }
     ensures serves { IfOk result (λ walk. IfSome (tree.get nat_cmp scans.now number)
         (λ s. Serves (spec_is s) (numbered 0 (rows_at tables.now.items s.table)) (index_in walk))) }
     ensures arranges { IfOk result (λ walk. IfSome (tree.get nat_cmp scans.now number)
@@ -301,15 +365,16 @@ pub(crate) fn new_walk(
 {
     let scan = live_scan(scans, number);
     let rows = rows_of(tables, scan.table);
+    let rises = is_rising(rising, scan.table);
     if !scan.order.is_empty() {
-        let walk = first_walk(alloc, rows, &scan.spec, &scan.order, params)?;
+        let walk = first_walk(alloc, rows, rises, &scan.spec, &scan.order, params)?;
         return Ok(Some(walk));
     }
     if matches!(scan.walk, Walk::ByIndex(_)) {
         return Ok(None);
     }
     let Some(found) = sought_in(&scan.spec.offered) else {
-        return Ok(Some(Walk::InTurn));
+        return Ok(Some(turn_walk(rows, rises, &scan.spec, params)));
     };
     let index = index_of_column(alloc, rows, found.column)?;
     Ok(Some(Walk::ByIndex(index)))

@@ -1,5 +1,5 @@
 -- What binding, unbinding and planning do to a wrapper over tables by place.
-use Rattle.std.proofs.Common.{◌≡◌, ◌≢◌, ℕ, ◌<◌, ◌⊎◌, Bool, true, false, ◌&&◌, List, [], ◌∷◌, Option, Some, None, IsSome, length, map, option_map, slice_get, slice_set, refl, ap, sym, ◌∙◌, subst, arith, eqb, inl, inr, zero, suc, is_some}
+use Rattle.std.proofs.Common.{◌≡◌, ◌≢◌, ℕ, ◌<◌, ◌⊎◌, true, false, ◌&&◌, List, [], ◌∷◌, Option, Some, None, IsSome, length, map, option_map, slice_get, slice_set, refl, ap, sym, ◌∙◌, subst, arith, eqb, inl, inr, zero, suc, is_some}
 use Rattle.std.specs.List.{list_all}
 use Rattle.std.specs.Option.{option_flatten}
 use Rattle.std.specs.Ordering.{nat_cmp}

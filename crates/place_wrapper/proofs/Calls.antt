@@ -1,5 +1,5 @@
 -- What the calls of a scan do to a wrapper over tables by place.
-use Rattle.std.proofs.Common.{◌≡◌, ◌≢◌, ℕ, ◌+◌, ◌-◌, ◌^◌, ◌<◌, ◌≤◌, ◌⊎◌, Bool, true, false, cond, not, ◌&&◌, List, [], ◌∷◌, Option, Some, None, Result, Ok, Err, Vec, Global, IsSome, IfOk, IfErr, map, drop, filter, option_map, zero, suc, refl, ap, sym, ◌∙◌, subst, arith, eqb, inl, inr}
+use Rattle.std.proofs.Common.{◌≡◌, ◌≢◌, ℕ, ◌+◌, ◌-◌, ◌^◌, ◌<◌, ◌≤◌, ◌⊎◌, Bool, true, false, cond, not, List, [], ◌∷◌, Option, Some, None, Result, Ok, Err, Vec, Global, IsSome, IfOk, IfErr, map, drop, filter, option_map, zero, suc, refl, ap, sym, ◌∙◌, subst, arith, eqb, inl, inr}
 use Rattle.std.specs.Ordering.{nat_cmp}
 use Rattle.std.specs.List.{list_all}
 use Rattle.std.specs.BTreeMap.{is_at}

@@ -1,8 +1,9 @@
 -- What a bind that reads a table and the end of a write do to a wrapper over tables by place.
-use Rattle.std.proofs.Common.{◌≡◌, ◌≢◌, ℕ, Bool, true, if◌then◌else◌, List, [], Option, Some, None, map, option_map, Contains, refl, ap, sym, ◌∙◌, subst, nat_eq}
+use Rattle.std.proofs.Common.{◌≡◌, ◌≢◌, ℕ, Bool, true, if◌then◌else◌, List, [], Option, Some, None, map, option_map, Contains, Result, Ok, Err, IfOk, IfErr, inl, inr, ◌⊎◌, false, eqb, refl, ap, sym, ◌∙◌, subst, nat_eq, length, ◌<◌, slice_set, arith}
 use Rattle.std.specs.List.{IsDistinct}
 use Rattle.std.proofs.lemmas.Option.{same_Some}
-use Rattle.fdw_api.specs.Prelude.{Column, OptionForm, Entry, Bytes, Held, held, Holding, Known, Unknown, TableRow, BoxTable, Staging, Binds, NoScan, Picks, CanClose, Closes, RefusesClose, HoldsImage}
+use Rattle.std.proofs.lemmas.Bool.Decides.{eqb_tells}
+use Rattle.fdw_api.specs.Prelude.{Column, OptionForm, Entry, Bytes, Held, held, Holding, Known, Unknown, TableRow, BoxTable, Staging, Binds, NoScan, Picks, CanClose, Closes, RefusesClose, HoldsImage, Change, CloseCause, faults_after}
 use Rattle.fdw_api.specs.declared.interface.Fault.{Fault}
 use Rattle.fdw_api.specs.declared.interface.Fault.TheVariants.{NoMemory, Source, Refused}
 use Rattle.blob_store.specs.Names.{is_blob_name}
@@ -11,11 +12,12 @@ use Rattle.wrapper_parts.specs.declared.changes.StagedWrite.{StagedWrite}
 use Rattle.wrapper_parts.specs.Staged.{change_is, write_is}
 use Rattle.place_wrapper.specs.Holdings.{holding_of, held_under}
 use Rattle.place_wrapper.specs.declared.scans.LiveScan.{LiveScan}
-use Rattle.place_wrapper.specs.Forms.{Form, ReadsAs, Rewrites, RefusesChanges}
+use Rattle.place_wrapper.specs.Forms.{Form, ReadsAs, Rewrites, Same}
+use Rattle.place_wrapper.specs.Writes.{Unwrites, WritesOrNot}
 use Rattle.place_wrapper.specs.Boxes.{table_at, rows_held, ScansFit}
 use Rattle.place_wrapper.specs.States.{place_ledger, place_state}
 use Rattle.place_wrapper.proofs.Rows.{numbered_once}
-use Rattle.place_wrapper.proofs.Binding.{Others, Kept, Apart, unscanned_free, unscanned_by, ledger_set, ledger_kept, coming_same, picks_under, known_is}
+use Rattle.place_wrapper.proofs.Binding.{Others, is_within, put_others, Kept, Apart, unscanned_free, unscanned_by, ledger_set, ledger_kept, coming_same, picks_under, known_is}
 
 -- what is known under a name after a blob was put there
 written_known : (before after : Standing) (image : List ℕ) (e : Option Entry) → after ≡ after_writing before image → holding_of after ≡ Known e → Some (Bytes image) ≡ e
@@ -27,6 +29,13 @@ written_known UnknownBlob after image e is known = absurd (other (sym (ap holdin
   where
     other : Unknown ≡ Known e → ⊥
     other q = cc
+
+-- a table that is taken out of its place and put back there
+pub taken_within : {T : Type 0} (old taken : List (Option T)) (at : ℕ) (x : T) → table_at old at ≡ Some x → length taken ≡ length old → at < length taken
+taken_within old taken at x was room = let lt = is_within old at x was in omega arith
+
+pub put_back : {T : Type 0} (old taken : List (Option T)) (at : ℕ) (y : Option T) → Others old taken at → Others old (slice_set taken at y) at
+put_back old taken at y others t ne = put_others taken at y t ne ∙ others t ne
 
 module _ {T : Type 0} (F : Form T) where
   held_once : (o : Option T) → IsDistinct nat_eq (map (λ r. r.id) (rows_held F o))
@@ -132,31 +141,60 @@ module _ {T : Type 0} (F : Form T) where
       let scans = staged_scans shelf old m w staged keep next pulled es k can in
       rw (es, el, k) (place_closes shelf after old new m w next pulled x y image was there others scans replaced named kept made)
 
-  -- the end of a write is refused before the blob is touched
-  refuses : (shelf : Shelf) (tables : List (Option T)) (m : List (ℕ × LiveScan)) (w : StagedWrite) (next pulled : ℕ) (x : T) (fault : Fault) → table_at tables w.table ≡ Some x → Kept F shelf tables
-      → RefusesChanges F x (map change_is w.changes.items) fault → RefusesClose (place_state F shelf tables m (Some w) next pulled) true fault (place_state F shelf tables m None next pulled)
-  refuses shelf tables m w next pulled x NoMemory was kept why = record { kept = refl; nature = refl; staging = write_is w; is_staged = refl; ledger = refl; cause = tt; leaves = λ honest. record { coming = λ q l o. refl; rows = λ t o. refl; holdings = λ r o. refl } }
-  refuses shelf tables m w next pulled x Source was kept why = absurd why
-  refuses shelf tables m w next pulled x (Refused c) was kept why = record {
-    kept = refl;
-    nature = refl;
-    staging = write_is w;
-    is_staged = refl;
-    ledger = refl;
-    cause = (why.0, λ honest b at. at_bound b (same_Some (F.bound x) b (sym (ap (option_map F.bound) was) ∙ at)));
-    leaves = λ honest. record { coming = λ q l o. refl; rows = λ t o. refl; holdings = λ r o. refl };
-  }
+  -- what stands under the names, and how many calls failed, where changes are not written
+  unwritten_under : (x : T) (changes : List Change) (fault : Fault) (shelf after : Shelf) → Unwrites F x changes fault shelf after → after.under ≡ shelf.under
+  unwritten_under x changes NoMemory shelf after w = ap (λ (s : Shelf). s.under) w
+  unwritten_under x changes Source shelf after w = ap (λ (s : Shelf). s.under) w
+  unwritten_under x changes (Refused c) shelf after w = ap (λ (s : Shelf). s.under) w.1
+
+  unwritten_faults : (x : T) (changes : List Change) (fault : Fault) (shelf after : Shelf) → Unwrites F x changes fault shelf after → after.failures ≡ faults_after fault shelf.failures
+  unwritten_faults x changes NoMemory shelf after w = ap (λ (s : Shelf). s.failures) w
+  unwritten_faults x changes Source shelf after w = ap (λ (s : Shelf). s.failures) w
+  unwritten_faults x changes (Refused c) shelf after w = ap (λ (s : Shelf). s.failures) w.1
+
+  -- the cause for which the end of a write is refused
+  close_cause : (shelf after : Shelf) (tables : List (Option T)) (m : List (ℕ × LiveScan)) (w : StagedWrite) (next pulled : ℕ) (x : T) (fault : Fault) → table_at tables w.table ≡ Some x → Kept F shelf tables
+      → Unwrites F x (map change_is w.changes.items) fault shelf after → CloseCause (place_state F shelf tables m (Some w) next pulled) (write_is w) fault
+  close_cause shelf after tables m w next pulled x NoMemory was kept why = tt
+  close_cause shelf after tables m w next pulled x Source was kept why = tt
+  close_cause shelf after tables m w next pulled x (Refused c) was kept why =
+      (why.0.0, λ honest b at. at_bound b (same_Some (F.bound x) b (sym (ap (option_map F.bound) was) ∙ at)))
     where
       at_bound : (b : BoxTable) → F.bound x ≡ b → (entry : Option Entry) × Picks (held_under shelf b.remote) entry × Contains (b.refuses.causes entry (rows_held F (table_at tables w.table)) (map change_is w.changes.items)) c
       at_bound b same =
           let pick = entry_of x (held_under shelf (F.bound x).remote) (λ e known. kept w.table x e was known) in
           subst (λ (z : BoxTable). (entry : Option Entry) × Picks (held_under shelf z.remote) entry × Contains (z.refuses.causes entry (rows_held F (table_at tables w.table)) (map change_is w.changes.items)) c) same
-          (pick.0, pick.1, subst (λ (o : Option T). Contains ((F.bound x).refuses.causes pick.0 (rows_held F o) (map change_is w.changes.items)) c) (sym was) (why.1 pick.0 pick.2))
+          (pick.0, pick.1, subst (λ (o : Option T). Contains ((F.bound x).refuses.causes pick.0 (rows_held F o) (map change_is w.changes.items)) c) (sym was) (why.0.1 pick.0 pick.2))
 
-  pub unmade_refuses : (shelf : Shelf) (tables : List (Option T)) (m : List (ℕ × LiveScan)) (w : StagedWrite) (staged left : Option StagedWrite) (keep : Bool) (next pulled : ℕ) (x : T) (fault : Fault)
-      → staged ≡ Some w → left ≡ None → keep ≡ true → table_at tables w.table ≡ Some x → Kept F shelf tables → RefusesChanges F x (map change_is w.changes.items) fault
-      → RefusesClose (place_state F shelf tables m staged next pulled) keep fault (place_state F shelf tables m left next pulled)
-  unmade_refuses shelf tables m w staged left keep next pulled x fault es el k was kept why = rw (es, el, k) (refuses shelf tables m w next pulled x fault was kept why)
+  -- the rows of the tables, where one table comes back
+  rows_stay : (old new : List (Option T)) (at : ℕ) (x y : T) → table_at old at ≡ Some x → table_at new at ≡ Some y → Others old new at → F.rows y ≡ F.rows x → (t : ℕ) → rows_held F (table_at new t) ≡ rows_held F (table_at old t)
+  rows_stay old new at x y was there others same t = split (eqb_tells t at)
+    where
+      split : ((eqb t at ≡ true) × (t ≡ at)) ⊎ ((eqb t at ≡ false) × (t ≢ at)) → rows_held F (table_at new t) ≡ rows_held F (table_at old t)
+      split (inl s) = rw (s.1, there, was) same
+      split (inr s) = ap (rows_held F) (others t s.1)
+
+  -- the end of a write is refused, and its table comes back
+  refuses : (shelf after : Shelf) (old new : List (Option T)) (m : List (ℕ × LiveScan)) (w : StagedWrite) (next pulled : ℕ) (x y : T) (fault : Fault)
+      → table_at old w.table ≡ Some x → table_at new w.table ≡ Some y → Others old new w.table → NoScan (place_state F shelf old m (Some w) next pulled) w.table → Kept F shelf old
+      → Same F x y → Unwrites F x (map change_is w.changes.items) fault shelf after
+      → RefusesClose (place_state F shelf old m (Some w) next pulled) true fault (place_state F after new m None next pulled)
+  refuses shelf after old new m w next pulled x y fault was there others scans kept same why =
+      let unscanned = unscanned_by F shelf old m (Some w) next pulled w.table scans in
+      record {
+        kept = refl;
+        nature = refl;
+        staging = write_is w;
+        is_staged = refl;
+        ledger = ledger_kept F after old new m None next pulled w.table x y was there same.bound others unscanned
+            ∙ ap (λ (n : ℕ). record (place_ledger F shelf old m None next pulled) { faults = n }) (unwritten_faults x (map change_is w.changes.items) fault shelf after why);
+        cause = close_cause shelf after old m w next pulled x fault was kept why;
+        leaves = λ honest. record {
+          coming = λ q live o. coming_same F old new m w.table q others unscanned;
+          rows = λ t o. rows_stay old new w.table x y was there others same.rows t;
+          holdings = λ r o. ap (λ (u : List ℕ → Standing). if is_blob_name r then holding_of (u r) else Known None) (unwritten_under x (map change_is w.changes.items) fault shelf after why);
+        };
+      }
 
   -- what a table that was just written keeps is what stands there
   pub written_kept : (shelf after : Shelf) (x y z : T) (image : List ℕ) (changes : List Rattle.fdw_api.specs.Kinds.Change) (e : Option Entry) → is_blob_name (F.bound x).remote ≡ true → Replaces shelf (F.bound x).remote image after
@@ -172,3 +210,38 @@ module _ {T : Type 0} (F : Form T) where
       → held_under after (F.bound y).remote ≡ held_under shelf (F.bound y).remote
   written_others shelf after tables at t x y image apart was ne is replaced =
       ap (λ (s : Standing). if is_blob_name (F.bound y).remote then holding_of s else Known None) (replaced.others (F.bound y).remote (λ e. ne (apart t at y x is was e)))
+
+  -- What holds of a table that is written or comes back, and of the others.
+  module _ {A : Type 0} (shelf after : Shelf) (x y : T) (changes : List Change) where
+    pub stays_bound : (r : Result A Fault) → WritesOrNot F x changes y shelf after r → F.bound y ≡ F.bound x
+    stays_bound (Ok a) w = w.rewrites.bound
+    stays_bound (Err fault) w = w.0.bound
+
+    pub stays_kept : (r : Result A Fault) (z : T) (e : Option Entry) → WritesOrNot F x changes y shelf after r → is_blob_name (F.bound x).remote ≡ true → ((d : Option Entry) → held_under shelf (F.bound x).remote ≡ Known d → F.fits x d)
+        → Some y ≡ Some z → held_under after (F.bound z).remote ≡ Known e → F.fits z e
+    stays_kept (Ok a) z e w named kept is known = written_kept shelf after x y z w.image changes e named w.replaces w.rewrites is known
+    stays_kept (Err fault) z e w named kept is known =
+        let one : y ≡ z = same_Some y z is in
+        let here : held_under shelf (F.bound x).remote ≡ Known e =
+        ap (λ (u : List ℕ → Standing). if is_blob_name (F.bound x).remote then holding_of (u (F.bound x).remote) else Known None) (sym (unwritten_under x changes fault shelf after w.1))
+        ∙ ap (λ (b : BoxTable). held_under after b.remote) (sym w.0.bound) ∙ ap (λ (v : T). held_under after (F.bound v).remote) one ∙ known in
+        subst (λ (v : T). F.fits v e) one (w.0.fits e (kept e here))
+
+    pub stays_others : (r : Result A Fault) (tables : List (Option T)) (at t : ℕ) (z : T) → WritesOrNot F x changes y shelf after r → Apart F tables → table_at tables at ≡ Some x → t ≢ at → table_at tables t ≡ Some z
+        → held_under after (F.bound z).remote ≡ held_under shelf (F.bound z).remote
+    stays_others (Ok a) tables at t z w apart was ne is = written_others shelf after tables at t x z w.image apart was ne is w.replaces
+    stays_others (Err fault) tables at t z w apart was ne is =
+        ap (λ (u : List ℕ → Standing). if is_blob_name (F.bound z).remote then holding_of (u (F.bound z).remote) else Known None) (unwritten_under x changes fault shelf after w.1)
+
+  -- the end of a write that is kept
+  pub write_ends : {A : Type 0} (shelf after : Shelf) (old new : List (Option T)) (m : List (ℕ × LiveScan)) (w : StagedWrite) (staged left : Option StagedWrite) (keep : Bool) (next pulled : ℕ) (x y : T) (r : Result A Fault)
+      → staged ≡ Some w → left ≡ None → keep ≡ true → CanClose (place_state F shelf old m staged next pulled) keep
+      → table_at old w.table ≡ Some x → table_at new w.table ≡ Some y → Others old new w.table → is_blob_name (F.bound x).remote ≡ true → Kept F shelf old
+      → WritesOrNot F x (map change_is w.changes.items) y shelf after r
+      → IfOk r (λ _. Closes (place_state F shelf old m staged next pulled) keep (place_state F after new m left next pulled))
+      × IfErr r (λ fault. RefusesClose (place_state F shelf old m staged next pulled) keep fault (place_state F after new m left next pulled))
+  write_ends shelf after old new m w staged left keep next pulled x y (Ok a) es el k can was there others named kept made =
+      (kept_closes shelf after old new m w staged left keep next pulled x y made.image es el k can was there others made.replaces named kept made.rewrites, tt)
+  write_ends shelf after old new m w staged left keep next pulled x y (Err fault) es el k can was there others named kept made =
+      let scans = staged_scans shelf old m w staged keep next pulled es k can in
+      (tt, rw (es, el, k) (refuses shelf after old new m w next pulled x y fault was there others scans kept made.0 made.1))

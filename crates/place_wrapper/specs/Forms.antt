@@ -89,6 +89,17 @@ pub record Rewrites {T : Type 0} (F : Form T) (t : T) (changes : List Change) (u
   pub image_is : (entry : Option Entry) → F.fits t entry → (F.bound t).image entry (map held (F.rows u)) ≡ Some (Bytes image)
   pub fits : F.fits u (Some (Bytes image))
 
+-- a table that shows what another shows, and fits what that one fits
+pub record Same {T : Type 0} (F : Form T) (t u : T) : Type 0 where
+  pub bound : F.bound u ≡ F.bound t
+  pub rows : F.rows u ≡ F.rows t
+  pub fits : (entry : Option Entry) → F.fits t entry → F.fits u entry
+
+-- a draft of a table: kept, it is the table after changes, and given up the table as it was
+pub record Drafts {T : Type 0} (F : Form T) (t : T) (changes : List Change) (makes leaves : T → Type 0) (image : List ℕ) : Type 0 where
+  pub kept : (u : T) → makes u → Rewrites F t changes u image
+  pub given_up : (u : T) → leaves u → Same F t u
+
 -- changes that are refused: a cause of the run that stands for them, or want of memory
 abbrev pub RefusesChanges : {T : Type 0} → Form T → T → List Change → Fault → Type 0
 RefusesChanges F t changes NoMemory = Unit {0}

@@ -1,6 +1,6 @@
-pub mod Halves
 pub mod Holdings
 pub mod Mapped
 pub mod Forms
 pub mod Boxes
+pub mod Writes
 pub mod States

@@ -14,18 +14,32 @@ use med_value::{ColumnDef, NoMemory, Row, Value};
 use std::alloc::Global;
 use wrapper_parts::{RowChange, Sought};
 
+/// A table whose changes were refused, and why.
+#[derive(Drop)]
+pub struct Unwritten<T> {
+    /// The table, as it was.
+    pub table: T,
+    /// Why.
+    pub fault: Fault,
+}
+
 /// A table that a blob was read as: it has rows at places, the first at 0. A kind of file is an implementation of it.
 ///
-/// `form` says what such a table is as a bound table of its kind, and what its rows are, and has the laws of both. A draft is a table after
-/// changes of which the image is not written yet: `drafted` is that table, and `image_of` that image.
+/// `form` says what such a table is as a bound table of its kind, and what its rows are, and has the laws of both. A table is written by
+/// way of a draft, into which it goes: all that can fail is done by then. `makes` says what the table may be once the draft is kept,
+/// `leaves` what it may be once the draft is given up, and `image_of` is the image of its changes.
 pub trait PlacedTable: Drop {
+    /// A table of which a write is under way.
     type Draft: Drop;
 
-    ghost use Rattle.place_wrapper.specs.Forms.{Form, GivesAt, HasAt, CellAt, ReadsAs, RefusesContent, Rewrites, RefusesChanges};
+    ghost use Rattle.blob_store.specs.Shelves.{joined};
+    ghost use Rattle.place_wrapper.specs.Forms.{Form, GivesAt, HasAt, CellAt, ReadsAs, RefusesContent, Drafts, Same, RefusesChanges};
 
     ghost form: { Form Self };
 
-    ghost drafted: { Self.Draft → Self };
+    ghost makes: { Self.Draft → Self → Type 0 };
+
+    ghost leaves: { Self.Draft → Self → Type 0 };
 
     ghost image_of: { Self.Draft → List ℕ };
 
@@ -99,18 +113,27 @@ pub trait PlacedTable: Drop {
         requires { at < length (form.rows self.now) }
         ensures { IfOk result (λ v. CellAt form self.now at column (datum v)) };
 
-    /// The table after staged changes, with an image that is read again as it. It is refused by a cause of the run that stands for all of
-    /// the changes together, or for want of memory.
-    fn rewritten(&self, alloc: Global, changes: Vec<RowChange>) -> Result<Self::Draft, Fault>
-        requires { list_all (row_of_change_fits (form.bound self.now).kinds) (map change_is changes.items) ≡ true }
-        ensures ok { IfOk result (λ draft. Rewrites form self.now (map change_is changes.items) (drafted draft) (image_of draft)) }
-        ensures err { IfErr result (λ fault. RefusesChanges form self.now (map change_is changes.items) fault) };
+    /// A draft of the table with staged changes, whose image is read again as the table that it is kept as. It is refused by a cause of the
+    /// run that stands for all of the changes together, or for want of memory, and the table comes back.
+    fn rewritten(
+        self,
+        alloc: Global,
+        changes: Vec<RowChange>,
+    ) -> Result<Self::Draft, Unwritten<Self>>
+        requires { list_all (row_of_change_fits (form.bound self).kinds) (map change_is changes.items) ≡ true }
+        ensures ok { IfOk result (λ draft. Drafts form self (map change_is changes.items) (makes draft) (leaves draft) (image_of draft)) }
+        ensures same { IfErr result (λ unwritten. Same form self unwritten.table) }
+        ensures err { IfErr result (λ unwritten. RefusesChanges form self (map change_is changes.items) unwritten.fault) };
 
-    /// The image of a draft.
-    fn image(draft: &Self::Draft) -> &[u8]
-        ensures { result.now ≡ image_of draft.now };
+    /// The image of a draft, in pieces.
+    fn image<'a>(alloc: Global, draft: &'a Self::Draft) -> Result<Vec<&'a [u8]>, NoMemory>
+        ensures { IfOk result (λ pieces. joined pieces.items ≡ image_of draft.now) };
 
-    /// The table of a draft.
-    fn into_table(draft: Self::Draft) -> Self
-        ensures { result ≡ drafted draft };
+    /// The table with the changes of its draft.
+    fn kept(draft: Self::Draft) -> Self
+        ensures { makes draft result };
+
+    /// The table without the changes of its draft.
+    fn given_up(draft: Self::Draft) -> Self
+        ensures { leaves draft result };
 }

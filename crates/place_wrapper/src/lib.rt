@@ -7,6 +7,7 @@ pub mod scans;
 pub mod spans;
 pub mod tables;
 pub mod wrapper;
+pub mod writes;
 
-pub use format::PlacedTable;
+pub use format::{PlacedTable, Unwritten};
 pub use wrapper::PlaceWrapper;

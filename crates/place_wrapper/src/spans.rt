@@ -4,7 +4,7 @@ ghost use Rattle.med_value.specs.Datum.{datum, cell};
 ghost use Rattle.fdw_api.specs.Scan.{spec_of};
 ghost use Rattle.wrapper_parts.specs.Scans.{column_cells};
 ghost use Rattle.wrapper_parts.specs.Rising.{AreRising};
-ghost use Rattle.place_wrapper.specs.Halves.{is_under, Parts, IsBeyond, IsAround};
+ghost use Rattle.wrapper_parts.specs.Halves.{is_under, Parts, IsBeyond, IsAround};
 ghost use Rattle.place_wrapper.specs.Boxes.{table_at, Spans};
 
 use crate::format::PlacedTable;

@@ -12,7 +12,8 @@ use crate::faults::fault_of;
 use crate::format::PlacedTable;
 use crate::scans::{LiveScan, begin_again, place_of, pull, spoil};
 use crate::spans::span_of;
-use crate::tables::{make_place, table_at};
+use crate::tables::{make_place, table_at, take_table};
+use crate::writes::write;
 use blob_store::{Blobs, is_blob_name};
 use fdw_api::interface::{Counts, Fault, RowId, SourceRow, TableOption, Ticket, Wrapper};
 use fdw_api::law::rows_are_typed;
@@ -25,8 +26,9 @@ use wrapper_parts::{RowChange, StagedWrite, add_change};
 ///
 /// A remote name is the name of a blob. A blob is read when it is bound, and the id of a row is its place. A scan takes what its format
 /// takes; one that looks for a parameter builds an index of that column when it is begun again, and goes from place to place by it until it
-/// ends. Where the first column rises, a scan goes only over the places of the keys that its restrictions ask for. A refused call uses no ticket number up. It answers `Fault::Source` where the blobs failed by their device or are worn out, and
-/// `faults` are the blobs' `failures`.
+/// ends. Where the first column rises, a scan goes only over the places of the keys that its restrictions ask for. A write goes into a draft
+/// of its table and then, as the image of that draft, into the blob; refused, the table is as it was. A refused call uses no ticket number
+/// up. It answers `Fault::Source` where the blobs failed by their device or are worn out, and `faults` are the blobs' `failures`.
 #[derive(Drop)]
 pub struct PlaceWrapper<B: Blobs, T: PlacedTable> {
     blobs: B,
@@ -244,20 +246,12 @@ impl<B: Blobs, T: PlacedTable> Wrapper for PlaceWrapper<B, T> {
             return Ok(());
         }
         let at = staged.table as usize;
-        let Some(table) = table_at(&self.tables, at) else {
+        let Some(table) = take_table(&mut self.tables, at) else {
             return Ok(());
         };
-        let draft = match table.rewritten(alloc, staged.changes) {
-            Ok(draft) => draft,
-            Err(fault) => return Err(fault),
-        };
-        match self.blobs.replace(alloc, table.remote(), T::image(&draft)) {
-            Err(fault) => Err(fault_of(fault)),
-            Ok(()) => {
-                self.tables[at] = Some(T::into_table(draft));
-                Ok(())
-            }
-        }
+        let (table, written) = write(alloc, &mut self.blobs, table, staged.changes);
+        self.tables[at] = Some(table);
+        written
     }
 
     fn ledger(&self) -> Counts {

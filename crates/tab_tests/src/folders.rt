@@ -64,6 +64,10 @@ put a=newer
 read a=newer
 ";
 
+fn halves(bytes: &[u8]) -> (&[u8], &[u8]) {
+    bytes.split_at(bytes.len() / 2)
+}
+
 // Does what a row says, and tells whether its bytes are there.
 fn does(alloc: Global, folder: &mut Folder<MemoryDisk>, row: &str) -> Result<bool, Fail> {
     let (call, file) = row.split_once(' ').ok_or(row)?;
@@ -75,7 +79,8 @@ fn does(alloc: Global, folder: &mut Folder<MemoryDisk>, row: &str) -> Result<boo
         return Err(row.into());
     }
     if call == "put" {
-        folder.replace(alloc, name, bytes.unwrap_or(b""))?;
+        let (front, back) = halves(bytes.unwrap_or(b""));
+        folder.replace(alloc, name, &[front, back])?;
         return Ok(true);
     }
     Ok(folder.read(alloc, name)?.as_deref() == bytes)

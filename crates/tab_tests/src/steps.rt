@@ -16,9 +16,10 @@ const SEEN: Mark = Mark::Seen(Stamp {
     nanoseconds: 0,
 });
 
-// Replaces `d/a`.
+// Replaces `d/a`, by two pieces.
 fn put(disk: &mut MemoryDisk, mark: Mark) -> Result<Stamp, PutFault> {
-    put_file(disk, "d", "d/.fedq.tmp", "d/a", mark, b"new a")
+    let pieces: [&[u8]; 2] = [b"new", b" a"];
+    put_file(disk, "d", "d/.fedq.tmp", "d/a", mark, &pieces)
 }
 
 // Whether a file has this mode and these bytes.
@@ -56,11 +57,11 @@ fn check(alloc: Global, has_locks: bool, passes: u64, calls: u64) -> Result<(), 
     Err(format!(in alloc; "{passes} calls passed: {answer:?}")?)?
 }
 
-// hold, look, probe, remove, make, write, sync, rename, settle: of these the last may fail when all is done
+// hold, look, probe, remove, make, write, write, sync, rename, settle: of these the last may fail when all is done
 #[test]
 fn each_call_fails_in_turn(rt: HostRuntime) -> Result<(), Fail> {
     for passes in 0..12 {
-        check(rt.alloc(), true, passes, 9)?;
+        check(rt.alloc(), true, passes, 10)?;
     }
     Ok(())
 }
@@ -69,7 +70,7 @@ fn each_call_fails_in_turn(rt: HostRuntime) -> Result<(), Fail> {
 #[test]
 fn each_call_fails_in_turn_without_locks(rt: HostRuntime) -> Result<(), Fail> {
     for passes in 0..12 {
-        check(rt.alloc(), false, passes, 8)?;
+        check(rt.alloc(), false, passes, 9)?;
     }
     Ok(())
 }

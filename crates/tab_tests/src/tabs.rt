@@ -8,7 +8,7 @@ use fdw_api::interface::{Fault, TableOption};
 use fdw_api::scan::{Agree, Restriction, ScanSpec};
 use med_value::text::row_text;
 use med_value::{Cause, ColumnDef, NoMemory, Row, Value};
-use place_wrapper::PlacedTable;
+use place_wrapper::{PlacedTable, Unwritten};
 use std::alloc::Global;
 use std::str::from_utf8;
 use wrapper_parts::{RowChange, Sought, takes, value_at};
@@ -20,6 +20,15 @@ pub struct TabTable {
     width: usize,
     rows: Vec<Row>,
     ghost plain: { are_rows width rows.items ≡ true },
+}
+
+/// A table of which a write is under way.
+#[derive(Drop)]
+pub struct TabDraft {
+    // as it was, and after its changes, which have this image
+    old: TabTable,
+    new: TabTable,
+    image: Vec<u8>,
 }
 
 // Whether a cell is written as it is read.
@@ -95,16 +104,38 @@ fn text_of(alloc: Global, rows: &[Row]) -> Result<Vec<u8>, NoMemory>
     Ok(text)
 }
 
+impl TabTable {
+    ghost use Rattle.std.specs.List.{list_all};
+    ghost use Rattle.fdw_api.specs.Prelude.{row_of_change_fits};
+    ghost use Rattle.wrapper_parts.specs.Staged.{change_is};
+    ghost use Rattle.place_wrapper.specs.Forms.{Rewrites, RefusesChanges};
+    ghost use Rattle.tab_tests.specs.TabForms.{tab_form};
+
+    // The table after changes, and its image.
+    fn changed(&self, alloc: Global, changes: Vec<RowChange>) -> Result<(TabTable, Vec<u8>), Fault>
+        ensures ok { IfOk result (λ made. Rewrites tab_form self.now (map change_is changes.items) made.0 made.1.items) }
+        ensures err { IfErr result (λ fault. RefusesChanges tab_form self.now (map change_is changes.items) fault) }
+    {
+        let rows = rows_after(alloc, &self.rows, changes)?;
+        let image = text_of(alloc, &rows)?;
+        let remote = self.remote.as_str().to_string(alloc)?;
+        let table = new_table(remote, self.width, rows, Cause::InvalidText)?;
+        Ok((table, image))
+    }
+}
+
 impl PlacedTable for TabTable {
     ghost use Rattle.tab_tests.specs.TabForms.{tab_form};
 
-    type Draft = (TabTable, Vec<u8>);
+    type Draft = TabDraft;
 
     ghost form = { tab_form };
 
-    ghost drafted = { λ draft. draft.0 };
+    ghost makes = { λ draft t. t ≡ draft.new };
 
-    ghost image_of = { λ draft. draft.1.items };
+    ghost leaves = { λ draft t. t ≡ draft.old };
+
+    ghost image_of = { λ draft. draft.image.items };
 
     fn read(
         alloc: Global,
@@ -152,19 +183,30 @@ impl PlacedTable for TabTable {
         value_at(&self.rows[at].cells, column, &Value::Null).copy(alloc)
     }
 
-    fn rewritten(&self, alloc: Global, changes: Vec<RowChange>) -> Result<Self::Draft, Fault> {
-        let rows = rows_after(alloc, &self.rows, changes)?;
-        let image = text_of(alloc, &rows)?;
-        let remote = self.remote.as_str().to_string(alloc)?;
-        let table = new_table(remote, self.width, rows, Cause::InvalidText)?;
-        Ok((table, image))
+    fn rewritten(
+        self,
+        alloc: Global,
+        changes: Vec<RowChange>,
+    ) -> Result<TabDraft, Unwritten<TabTable>> {
+        match self.changed(alloc, changes) {
+            Ok((new, image)) => Ok(TabDraft {
+                old: self,
+                new,
+                image,
+            }),
+            Err(fault) => Err(Unwritten { table: self, fault }),
+        }
     }
 
-    fn image(draft: &Self::Draft) -> &[u8] {
-        &draft.1
+    fn image<'a>(alloc: Global, draft: &'a TabDraft) -> Result<Vec<&'a [u8]>, NoMemory> {
+        Ok(vec![in alloc; draft.image.as_slice()]?)
     }
 
-    fn into_table(draft: Self::Draft) -> TabTable {
-        draft.0
+    fn kept(draft: TabDraft) -> TabTable {
+        draft.new
+    }
+
+    fn given_up(draft: TabDraft) -> TabTable {
+        draft.old
     }
 }

@@ -7,10 +7,10 @@ ghost use Rattle.tab_tests.specs.Tabs.{texts};
 ghost use Rattle.tab_tests.specs.TabForms.{tab_form};
 
 use crate::parts::{PARTS, columns};
-use crate::tabs::{TabTable, row_of};
+use crate::tabs::{TabDraft, TabTable, row_of};
 use fdw_api::interface::Fault;
 use med_value::{Cause, NoMemory, Row, Value};
-use place_wrapper::PlacedTable;
+use place_wrapper::{PlacedTable, Unwritten};
 use std::alloc::Global;
 use std::test::Fail;
 use wrapper_parts::RowChange;
@@ -57,18 +57,47 @@ fn changes(alloc: Global) -> Result<Vec<RowChange>, NoMemory>
     ]?)
 }
 
+// One row is new.
+fn one_more(alloc: Global) -> Result<Vec<RowChange>, NoMemory>
+    ensures { IfOk result (λ changes. list_all (row_of_change_fits (texts 2)) (map change_is changes.items) ≡ true) }
+{
+    let gear = row_of(alloc, "gear\t\\N")?;
+    Ok(vec![in alloc; RowChange::Insert(gear)]?)
+}
+
+// Whether the image of a draft is these bytes, in one piece.
+fn has_image(alloc: Global, draft: &TabDraft, bytes: &[u8]) -> Result<bool, NoMemory> {
+    let pieces = TabTable::image(alloc, draft)?;
+    Ok(pieces.len() == 1 && pieces[0] == bytes)
+}
+
 const CHANGED: &[u8] = b"bolt\tred\nnut\tgrey\nbolt\tblue\ngear\t\\N\n";
 
 #[test]
 fn changes_are_read_again(rt: HostRuntime) -> Result<(), Fail> {
     let alloc = rt.alloc();
     let table = read_parts(alloc, PARTS)?;
-    let draft = table.rewritten(alloc, changes(alloc)?)?;
-    assert!(rt; TabTable::image(&draft) == CHANGED);
+    let Ok(draft) = table.rewritten(alloc, changes(alloc)?) else {
+        return Err("refused".into());
+    };
+    assert!(rt; has_image(alloc, &draft, CHANGED)?);
+    assert_eq!(rt; TabTable::kept(draft).count(), 4);
     let again = read_parts(alloc, CHANGED)?;
-    assert_eq!(rt; again.count(), 4);
-    let same = again.rewritten(alloc, Vec::new(alloc))?;
-    assert!(rt; TabTable::image(&same) == CHANGED);
+    let Ok(same) = again.rewritten(alloc, Vec::new(alloc)) else {
+        return Err("refused".into());
+    };
+    assert!(rt; has_image(alloc, &same, CHANGED)?);
+    Ok(())
+}
+
+#[test]
+fn a_draft_that_is_given_up_is_the_table_as_it_was(rt: HostRuntime) -> Result<(), Fail> {
+    let alloc = rt.alloc();
+    let table = read_parts(alloc, b"bolt\tred\n")?;
+    let Ok(draft) = table.rewritten(alloc, one_more(alloc)?) else {
+        return Err("refused".into());
+    };
+    assert_eq!(rt; TabTable::given_up(draft).count(), 1);
     Ok(())
 }
 
@@ -86,8 +115,11 @@ fn texts_with_tabs_are_refused(rt: HostRuntime) -> Result<(), Fail> {
     let alloc = rt.alloc();
     let table = read_parts(alloc, PARTS)?;
     match table.rewritten(alloc, marked(alloc)?) {
-        Err(Fault::Refused(cause)) => assert!(rt; cause == Cause::InvalidText),
-        _ => return Err("written".into()),
+        Err(Unwritten { table, fault }) => {
+            assert!(rt; fault == Fault::Refused(Cause::InvalidText));
+            assert_eq!(rt; table.count(), 4);
+        }
+        Ok(_) => return Err("written".into()),
     }
     Ok(())
 }

@@ -5,3 +5,6 @@ pub mod Indexes
 pub mod Scans
 pub mod Ranges
 pub mod Rising
+pub mod Halves
+pub mod KeepingRise
+pub mod Splices

@@ -9,6 +9,7 @@ pub mod law;
 pub mod ranges;
 pub mod rising;
 pub mod sought;
+pub mod splice;
 pub mod tests_of_keys;
 
 pub use changes::{RowChange, StagedWrite, add_change};
@@ -17,4 +18,5 @@ pub use index::PlaceIndex;
 pub use ranges::KeyRange;
 pub use rising::range_around;
 pub use sought::{Sought, sought_in, takes, value_at};
+pub use splice::Splice;
 pub use tests_of_keys::{answers_for, range_of};

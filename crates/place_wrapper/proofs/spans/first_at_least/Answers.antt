@@ -1,9 +1,9 @@
 use Rattle.std.proofs.Common.{◌≡◌, ◌<◌, ◌+◌, ◌-◌, ◌/◌, true, false, length, sym, ◌∙◌, to_z, of_z, w64, arith}
 use Rattle.med_value.specs.Datum.{cell}
 use Rattle.wrapper_parts.specs.Scans.{column_cells}
-use Rattle.place_wrapper.specs.Halves.{is_under}
+use Rattle.wrapper_parts.specs.Halves.{is_under}
 use Rattle.place_wrapper.proofs.Rows.{cells_length}
-use Rattle.place_wrapper.proofs.Rises.{under_before, over_behind}
+use Rattle.wrapper_parts.proofs.Halving.{under_before, over_behind}
 use Rattle.place_wrapper.proofs.spans.first_at_least.Goals as goal
 
 pub loop-first-preserved-then-branch : goal.loop-first-preserved-then-branch

@@ -1,7 +1,7 @@
 use Rattle.std.proofs.Common.{◌≡◌, ◌≤◌, ◌<◌, ◌-◌, ℕ, true, false, length}
 use Rattle.med_value.specs.Datum.{cell}
 use Rattle.wrapper_parts.specs.Scans.{column_cells}
-use Rattle.place_wrapper.specs.Halves.{is_under}
+use Rattle.wrapper_parts.specs.Halves.{is_under}
 use Rattle.place_wrapper.proofs.spans.first_at_least.Given as goal
 
 abbrev pub invariant-loop-first : goal.invariant-loop-first

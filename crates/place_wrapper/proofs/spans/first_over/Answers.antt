@@ -3,7 +3,7 @@ use Rattle.std.proofs.lemmas.Int.{ints}
 use Rattle.std.proofs.lemmas.Result.{IfOk-weaker}
 use Rattle.wrapper_parts.specs.Scans.{column_cells}
 use Rattle.place_wrapper.proofs.Rows.{cells_length}
-use Rattle.place_wrapper.proofs.Rises.{beyond_by, beyond_all}
+use Rattle.wrapper_parts.proofs.Halving.{beyond_by, beyond_all}
 use Rattle.place_wrapper.proofs.spans.first_over.Goals as goal
 
 pub returns : goal.returns

@@ -1,6 +1,6 @@
 use Rattle.std.proofs.Common.{ap, ◌∙◌, w64}
 use Rattle.std.proofs.lemmas.Int.{to_z-of_z}
-use Rattle.place_wrapper.specs.Halves.{is_under}
+use Rattle.wrapper_parts.specs.Halves.{is_under}
 use Rattle.place_wrapper.proofs.Rises.{cell_read}
 use Rattle.place_wrapper.proofs.spans.key_under.Goals as goal
 

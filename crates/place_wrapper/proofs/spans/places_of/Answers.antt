@@ -1,7 +1,7 @@
 use Rattle.std.proofs.Common.{◌≡◌, false, FitsSigned, w64, rules}
 use Rattle.std.proofs.lemmas.Int.{to_z-of_z}
 use Rattle.wrapper_parts.specs.Scans.{column_cells}
-use Rattle.place_wrapper.proofs.Rises.{around_by, around_none}
+use Rattle.wrapper_parts.proofs.Halving.{around_by, around_none}
 use Rattle.place_wrapper.proofs.spans.places_of.Goals as goal
 
 pub returns : goal.returns

@@ -11,6 +11,8 @@ invariant_of-self c =
     let s = c.args.self.now in
     record {
       marked = s.marked;
+      noted = s.noted;
+      rises = s.rises;
       distinct = s.distinct;
       typed = s.typed;
       fitting = ends_fitting s.tables.items s.scans c.remove.new.self c.args.ticket.number s.fitting c.remove.ensures.updates;

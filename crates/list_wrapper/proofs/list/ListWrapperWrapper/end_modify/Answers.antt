@@ -6,6 +6,7 @@ use Rattle.list_wrapper.specs.Lists.{no_line, rows_fit}
 use Rattle.list_wrapper.specs.Changes.{as_held, change_is, StandsFor}
 use Rattle.list_wrapper.specs.Scans.{numbered}
 use Rattle.list_wrapper.proofs.Closing.{kept_closes, stay_fitting, list_refuses, names_stay, same_listed, staged_there, staged_scans, written_fits, either_way, where_ok, where_err}
+use Rattle.list_wrapper.proofs.RisingLists.{marked_rise, rises_set}
 use Rattle.list_wrapper.proofs.list.ListWrapperWrapper.end_modify.Goals as goal
 
 pub returns-clause-ok : goal.returns-clause-ok
@@ -49,6 +50,9 @@ invariant_of-self-2 c =
     let m = s.marked in
     record {
       marked = search rules;
+      noted = search rules;
+      rises = rises_set s.tables.items s.rising.items st.table c.apply.new.rises x y dx
+          (c.apply.ensures.rises (λ mark. marked_rise s.tables.items s.rising.items st.table x _ dx s.noted c.index_mut-2.ensures.value mark s.rises)) s.rises;
       distinct = names_stay s.tables.items st.table x y dx refl ∙ s.distinct;
       typed = either_way (map as_held y.rows.items ≡ rows_after no_line (numbered 0 x.rows.items) (map change_is st.changes.items)) (y.rows.items ≡ x.rows.items) _ c.apply.result c.apply.ensures.ok c.apply.ensures.same
           (λ rows. written_fits s.tables.items st s.staged x y c.writes_are_typed.ensures es dx refl s.typed s.typed_write rows)

@@ -39,6 +39,8 @@ invariant_of-self c =
     let w = at_some _ is in
     record {
       marked = s.marked;
+      noted = s.noted;
+      rises = s.rises;
       distinct = s.distinct;
       typed = s.typed;
       fitting = keeps_fitting s.tables.items s.scans c.spoil.new.scans number _ s.fitting (s.fitting number w.0 w.1) (if_some _ _ w.0 w.1 c.spoil.ensures);
@@ -54,9 +56,11 @@ invariant_of-self-in-Ok-Some c =
     let w = at_some _ is in
     record {
       marked = s.marked;
+      noted = s.noted;
+      rises = s.rises;
       distinct = s.distinct;
       typed = s.typed;
-      fitting = keeps_fitting s.tables.items s.scans c.advance.new.scans number _ s.fitting ((s.fitting number w.0 w.1).0, if_some _ _ w.0 w.1 (rw c.in-Ok-Some.field-0-is at c.in-Ok-Some.ensures.on)) (if_some _ _ w.0 w.1 c.advance.ensures);
+      fitting = keeps_fitting s.tables.items s.scans c.advance.new.scans number _ s.fitting ((s.fitting number w.0 w.1).0, if_some _ _ w.0 w.1 (rw c.in-Ok-Some.field-0-is at c.in-Ok-Some.ensures.on), (s.fitting number w.0 w.1).2) (if_some _ _ w.0 w.1 c.advance.ensures);
       typed_write = s.typed_write;
       fresh = keeps_fresh s.scans c.advance.new.scans number s.next _ s.fresh is (if_some _ _ w.0 w.1 c.advance.ensures);
     }
