@@ -161,7 +161,7 @@ plain_drop (suc n) [] h = refl
 plain_drop (suc n) (r ∷ rs) h = plain_drop n rs (both (is_plain r) (list_all is_plain rs) h).1
 
 -- records that stand so one after the other
-lines_flat : (rows : List Record) → flat_map (λ f. f) (flat_map ended rows) ≡ flat_map line_text rows
+pub lines_flat : (rows : List Record) → flat_map (λ f. f) (flat_map ended rows) ≡ flat_map line_text rows
 lines_flat [] = refl
 lines_flat (r ∷ rows) = flat_both (ended r) (flat_map ended rows) ∙ ap (λ (l : List ℕ). line_text r ++ l) (lines_flat rows)
   where
@@ -211,7 +211,7 @@ plain_rows w fields rows lt whole lines count size is all counted =
     same m n e = grind (arith, nat_tests)
 
 -- the text of plain records is what the writer writes
-text_shown : (rows : List Record) → list_all is_plain rows ≡ true → csv_text rows ≡ flat_map line_text rows
+pub text_shown : (rows : List Record) → list_all is_plain rows ≡ true → csv_text rows ≡ flat_map line_text rows
 text_shown [] h = refl
 text_shown (r ∷ rows) h =
     let b = both (is_plain r) (list_all is_plain rows) h in

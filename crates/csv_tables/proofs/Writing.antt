@@ -15,7 +15,7 @@ pub writes_as : (xs ys : List ℕ) (w : Writer (Vec ℕ Global)) → HasWritten 
 writes_as xs ys w h e = rw e at h
 
 -- one record more
-take_row : (rs : List Record) (at : ℕ) (r : Record) (more : List Record) → drop at rs ≡ r ∷ more → take (suc at) rs ≡ take at rs ++ r ∷ []
+pub take_row : (rs : List Record) (at : ℕ) (r : Record) (more : List Record) → drop at rs ≡ r ∷ more → take (suc at) rs ≡ take at rs ++ r ∷ []
 take_row [] zero r more e = absurd cc
 take_row [] (suc at) r more e = absurd cc
 take_row (x ∷ rs) zero r more e = let s : x ≡ r = cc in ap (λ (y : Record). y ∷ []) s
@@ -25,7 +25,7 @@ none_behind : (l : List ℕ) → l ++ [] ≡ l
 none_behind [] = refl
 none_behind (x ∷ l) = ap (λ (m : List ℕ). x ∷ m) (none_behind l)
 
-text_push : (rs : List Record) (r : Record) → csv_text (rs ++ r ∷ []) ≡ csv_text rs ++ row_text default_writer r
+pub text_push : (rs : List Record) (r : Record) → csv_text (rs ++ r ∷ []) ≡ csv_text rs ++ row_text default_writer r
 text_push [] r = none_behind (row_text default_writer r)
 text_push (x ∷ rs) r = ap (λ (l : List ℕ). row_text default_writer x ++ l) (text_push rs r) ∙ sym (append_assoc (row_text default_writer x) (csv_text rs) (row_text default_writer r))
 
