@@ -161,7 +161,6 @@ pub(crate) fn head_of(
 fn text_size(rows: &Rows, middle: &Middle) -> usize
     requires order { middle.now.from ≤ middle.now.to }
     requires within { middle.now.to ≤ rows.now.count }
-    requires width { middle.now.rows.width ≡ rows.now.width }
     ensures { result ≡ min (length (held_text (records_with rows.now middle.now))) (2 ^ 64 - 1) }
 {
     let all = rows.fields.len();
@@ -176,7 +175,6 @@ fn text_size(rows: &Rows, middle: &Middle) -> usize
 pub(crate) fn is_too_large(head: &Head, rows: &Rows, middle: &Middle) -> bool
     requires order { middle.now.from ≤ middle.now.to }
     requires within { middle.now.to ≤ rows.now.count }
-    requires width { middle.now.rows.width ≡ rows.now.width }
     ensures { result ≡ nat_lt byte_limit (length (image_by head.now.in_pieces head.now.bytes.items
         (held_text (records_with rows.now middle.now)))) }
 {

@@ -1,4 +1,4 @@
-use Rattle.std.proofs.Common.{◌≤◌, ◌+◌, ◌-◌, ◌&&◌, refl, arith}
+use Rattle.std.proofs.Common.{◌≤◌, ◌+◌, ◌-◌, ◌&&◌, ◌∙◌, refl, arith}
 use Rattle.csv_tables.proofs.RowDrafts.{are_with, were_rows, with_count}
 use Rattle.csv_tables.proofs.Planning.{both_told, none_told, told_as}
 use Rattle.csv_tables.proofs.rows_draft.RowsDraft.new.Goals.{then-plain, else-plain}
@@ -26,7 +26,7 @@ invariant_of-result c =
     record {
       were = were_rows r c.in-Ok.fields.before c.in-Ok.ensures.before;
       are = told_as _ _ (r.plain && m.rows.plain) _ c.in-Ok.fields.after made.are
-          (elim c.if-plain.branch [ then-plain w ↦ both_told _ _ _ w.if-plain.true w.result-is | else-plain w ↦ none_told _ _ _ w.if-plain.false w.result-is ]);
+          (elim c.if-plain.branch [ then-plain w ↦ both_told _ _ _ w.if-plain.true w.result-is | else-plain w ↦ none_told _ _ _ w.if-plain.false (w.result-is ∙ w.if-plain.false) ]);
     }
 
 pub returns-after-plain-clause-after : goal.returns-after-plain-clause-after
