@@ -4,7 +4,7 @@ use Rattle.std.specs.List.{list_any}
 use Rattle.std.specs.String.{string_bytes}
 use Rattle.std.specs.BTreeMap.{BTreeMap}
 use Rattle.std.proofs.lemmas.Bool.Decides.{nat_tests}
-use Rattle.std.proofs.lemmas.List.{map-append, length-append}
+use Rattle.std.proofs.lemmas.List.{map-append}
 use Rattle.std.proofs.lemmas.List.Elements.{Contains-append_left}
 use Rattle.csv.specs.Records.{fields_of}
 use Rattle.csv.specs.declared.record.ByteRecord.{ByteRecord}
@@ -16,14 +16,13 @@ use Rattle.fdw_api.specs.declared.interface.Fault.TheVariants.{NoMemory, Source,
 use Rattle.csv_tables.specs.declared.table.CsvTable.{CsvTable}
 use Rattle.wrapper_parts.specs.declared.fates.Fate.{Fate}
 use Rattle.wrapper_parts.specs.declared.fates.Fate.TheVariants.{Keep}
-use Rattle.csv_tables.specs.declared.middle.Gathered.{Gathered}
 use Rattle.csv_tables.specs.Cells.{line_of}
 use Rattle.csv_tables.specs.CsvRecords.{Record, csv_records, csv_text, heading}
 use Rattle.csv_tables.specs.Shapes.{Shape, read_row, unless, hides_value, causes_behind, rows_text}
 use Rattle.csv_tables.specs.Content.{TellsCause}
 use Rattle.csv_tables.specs.Flat.{header_in}
 use Rattle.csv_tables.specs.Tables.{shape_is, records_of, numbered}
-use Rattle.csv_tables.specs.Rewriting.{left_by, fates_of, rows_left, Gathers, Rewrites, rows_in}
+use Rattle.csv_tables.specs.Rewriting.{left_by, fates_of, rows_left, Rewrites, rows_in}
 use Rattle.csv_tables.proofs.Flat.{cut_length}
 use Rattle.csv_tables.proofs.Drafts.{told, under}
 use Rattle.csv_tables.proofs.Gathering.{left_kept}
@@ -58,17 +57,6 @@ pub rows_made : (t : CsvTable) (changed : BTreeMap ℕ (Option ByteRecord)) (fre
 rows_made t changed fresh changes same new =
     made (shape_is t.layout) (records_of t.rows) (map fields_of fresh) t.rows.count (fates_of changed t.rows.count) changes (cut_length t.rows.count t.rows.width (held_of t.rows.fields)) (same t.rows.count (records_of t.rows)) new
 
--- how many records were put together
-pub gathered_size : (width : ℕ) (rs : List Record) (g : Gathered) → Gathers width rs g → length rs ≡ g.count
-gathered_size width rs g h = h.count_is
-
-pub all_size : (width : ℕ) (rs : List Record) (g : Gathered) (fresh : List ByteRecord) → Gathers width rs g → length (rs ++ map fields_of fresh) ≡ g.count + length fresh
-all_size width rs g fresh h =
-    let a = length-append rs (map fields_of fresh) in
-    let b = gathered_size width rs g h in
-    let c = length_lines fresh in
-    omega arith
-
 same_size : (shape : Shape) (rs : List Record) (all : List Held) → map (read_row shape) rs ≡ all → length all ≡ length rs
 same_size shape rs all e = sym (ap length e) ∙ length_rows shape rs
 
@@ -99,13 +87,7 @@ tells_hidden Source test more h = absurd h
 tells_hidden (Refused c) true more (k, lt, e) = absurd (omega arith)
 tells_hidden (Refused c) false more h = Contains-append_left (NotInState ∷ []) more c h
 
--- too many rows, and too many bytes
-pub tells_many : (shape : Shape) (header rs : List Record) (old : List TableRow) (changes : List Change) → map (read_row shape) rs ≡ rows_after (line_of shape.null) old changes
-    → 1000000 < length rs → Contains (causes_behind shape header old changes) TooLarge
-tells_many shape header rs old changes e lt =
-    under (not (list_any (hides_value shape.null) changes)) NotInState TooLarge _
-    (told _ TooLarge _ (ap (λ (n : ℕ). nat_le n 1000000) (same_size shape rs _ e) ∙ is_above (length rs) 1000000 lt))
-
+-- too many bytes, and too many rows
 pub tells_long : (shape : Shape) (header rs : List Record) (old : List TableRow) (changes : List Change) → map (read_row shape) rs ≡ rows_after (line_of shape.null) old changes
     → 67108864 < length (csv_text (header ++ rs)) → Contains (causes_behind shape header old changes) TooLarge
 tells_long shape header rs old changes e lt =

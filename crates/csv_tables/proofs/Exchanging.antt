@@ -1,11 +1,11 @@
 -- Fields of which a range is replaced by others.
-use Rattle.std.proofs.Common.{◌≡◌, ℕ, zero, suc, ◌+◌, ◌-◌, ◌<◌, ◌≤◌, ◌^◌, List, [], ◌∷◌, ◌++◌, length, map, take, drop, get_or, slice_set, refl, ap, sym, ◌∙◌, subst, arith}
+use Rattle.std.proofs.Common.{◌≡◌, ℕ, zero, suc, ◌+◌, ◌-◌, ◌<◌, ◌≤◌, ◌^◌, List, [], ◌∷◌, ◌++◌, length, map, take, drop, get_or, slice_set, refl, ap, sym, ◌∙◌, arith}
 use Rattle.std.specs.List.{flat_map}
 use Rattle.std.proofs.lemmas.List.{length-append, length-drop, length-take-le, take_all, drop_all, append-nil}
 use Rattle.csv.specs.Records.{Rising, cut_from, last_end, prev}
 use Rattle.csv.proofs.RecordFacts.{rising-more, cut-take, cut-length, prev-first}
 use Rattle.csv_tables.specs.Held.{moved, CanMove}
-use Rattle.csv_tables.proofs.Moving.{prev_within, prev_order, rising_first, rising_past, last_first, cut_first, closed, range_text, moved_rising, moved_fields, moved_last, range_rising, text_range}
+use Rattle.csv_tables.proofs.Moving.{prev_within, rising_first, last_first, cut_first, closed, range_text, moved_rising, moved_fields, moved_last, text_range}
 
 -- each place is from the first one on, and none is beyond the text
 pub rising_each : (s : ℕ) (ends : List ℕ) (size k : ℕ) → Rising s ends size → k < length ends → (s ≤ get_or ends k 0) × (get_or ends k 0 ≤ size)

@@ -1,7 +1,6 @@
 -- Records that are put together, and what a write leaves of records.
-use Rattle.std.proofs.Common.{◌≡◌, ℕ, ◌+◌, ◌*◌, ◌-◌, ◌≤◌, Bool, true, false, ◌&&◌, nat_eq, List, [], ◌∷◌, ◌++◌, length, map, flat_map, replicate, take, drop, Result, refl, ap, sym, ◌∙◌, subst, arith}
+use Rattle.std.proofs.Common.{◌≡◌, ℕ, ◌+◌, ◌*◌, ◌-◌, ◌≤◌, Bool, true, false, ◌&&◌, nat_eq, List, [], ◌∷◌, ◌++◌, length, map, flat_map, replicate, take, drop, refl, ap, sym, ◌∙◌, subst, arith}
 use Rattle.std.specs.List.{list_all}
-use Rattle.std.specs.Result.{IfOk}
 use Rattle.std.specs.Str.{is_utf8}
 use Rattle.std.proofs.lemmas.Bool.Decides.{nat_tests}
 use Rattle.std.proofs.lemmas.List.{length-append, length-drop, length-take-le, length_push, append_assoc, take_all, drop_all}
@@ -78,9 +77,6 @@ gathers_range r rows g h from to was order within ef ep ec plain =
 
 pub gathers_as : (width : ℕ) (xs ys : List Record) (g : Gathered) → Gathers width xs g → xs ≡ ys → Gathers width ys g
 gathers_as width xs ys g h e = subst (λ (l : List Record). Gathers width l g) e h
-
-pub gathers_all : {E : Type 0} (width : ℕ) (xs ys : List Record) (g : Result Gathered E) → IfOk g (λ g. Gathers width xs g) → xs ≡ ys → IfOk g (λ g. Gathers width ys g)
-gathers_all width xs ys g h e = subst (λ (l : List Record). IfOk g (λ g. Gathers width l g)) e h
 
 -- the new records, one after the other
 pub lines_first : (width : ℕ) (x : ByteRecord) (xs ys : List ByteRecord) → xs ≡ x ∷ ys → list_all (is_whole width) (map fields_of xs) ≡ true

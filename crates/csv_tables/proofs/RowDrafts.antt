@@ -1,10 +1,9 @@
 -- The records of a table with others in the place of a range, as a table holds them.
-use Rattle.std.proofs.Common.{◌≡◌, ℕ, zero, suc, ◌+◌, ◌*◌, ◌-◌, ◌<◌, ◌≤◌, ◌^◌, Bool, true, false, ◌&&◌, List, [], ◌∷◌, ◌++◌, length, take, drop, refl, ap, sym, ◌∙◌, subst, arith}
+use Rattle.std.proofs.Common.{◌≡◌, ℕ, ◌+◌, ◌*◌, ◌-◌, ◌≤◌, Bool, true, ◌&&◌, List, [], ◌++◌, length, take, drop, ap, sym, ◌∙◌, subst, arith}
 use Rattle.std.specs.List.{list_all, flat_map}
-use Rattle.std.proofs.lemmas.List.{length-append, length-drop, length-take-le, drop_all}
+use Rattle.std.proofs.lemmas.List.{length-append, length-drop, length-take-le}
 use native.Mathlib.Nat.{mul-le-mul_right}
 use Rattle.csv.specs.Records.{Row, fields_of, partial_of}
-use Rattle.csv.specs.declared.record.ByteRecord.{ByteRecord}
 use Rattle.fdw_api.specs.Prelude.{Change}
 use Rattle.csv_tables.specs.declared.table.Rows.{Rows}
 use Rattle.csv_tables.specs.declared.table.CsvTable.{CsvTable}

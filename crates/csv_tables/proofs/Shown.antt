@@ -6,10 +6,8 @@ use Rattle.std.proofs.lemmas.List.{append-nil, append_assoc, take_more}
 use Rattle.csv.specs.Writing.{default_writer, needs_byte, needs_quotes, field_text, fields_text, is_blank, row_body, row_text}
 use Rattle.csv_tables.specs.CsvRecords.{Record, csv_text, is_whole}
 use Rattle.csv_tables.specs.Held.{ended, is_plain, plain_if, special, special_in, held_of}
-use Rattle.csv_tables.specs.declared.table.Rows.{Rows}
 use Rattle.csv.specs.Records.{Row, cut_from, fields_of, text_of}
 use native.Mathlib.Nat.{suc-mul}
-use Rattle.csv_tables.specs.Tables.{records_of}
 use Rattle.csv_tables.proofs.Holding.{width_is, holds_rows}
 use Rattle.csv_tables.proofs.FieldSteps.{both}
 
@@ -216,6 +214,3 @@ text_shown [] h = refl
 text_shown (r ∷ rows) h =
     let b = both (is_plain r) (list_all is_plain rows) h in
     ap (λ (x : List ℕ). x ++ csv_text rows) (plain_line r b.0) ∙ ap (λ (x : List ℕ). line_text r ++ x) (text_shown rows b.1)
-
-pub rows_shown : (r : Rows) → r.plain ≡ true → csv_text (records_of r) ≡ flat_map (λ f. f) (fields_of r.fields)
-rows_shown r e = text_shown (records_of r) (plain_known r.plain (records_of r) r.shown e) ∙ sym (ap (flat_map (λ f. f)) r.lines ∙ lines_flat (records_of r))

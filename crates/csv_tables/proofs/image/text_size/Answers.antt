@@ -1,5 +1,5 @@
-use Rattle.std.proofs.Common.{◌≡◌, ◌≤◌, ◌+◌, ◌*◌, ◌∙◌, ap, sym, length, min, arith}
-use Rattle.csv_tables.proofs.Heads.{place_fields, sizes, sum_of_three}
+use Rattle.std.proofs.Common.{arith}
+use Rattle.csv_tables.proofs.Heads.{sizes}
 use Rattle.csv_tables.proofs.image.text_size.Goals as goal
 
 pub returns : goal.returns

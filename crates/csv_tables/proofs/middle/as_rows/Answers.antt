@@ -1,4 +1,4 @@
-use Rattle.std.proofs.Common.{◌≡◌, ◌<◌, ◌^◌, ◌∙◌, ap, true, length, arith}
+use Rattle.std.proofs.Common.{◌∙◌, ap, arith}
 use Rattle.std.specs.List.{list_all}
 use Rattle.csv_tables.specs.Held.{is_plain}
 use Rattle.csv_tables.proofs.Holding.{holds_rows}

@@ -1,4 +1,4 @@
-use Rattle.std.proofs.Common.{◌≡◌, ◌+◌, ◌-◌, ◌<◌, ◌≤◌, ◌++◌, ◌∙◌, List, ap, take, drop, length, map, arith, rules}
+use Rattle.std.proofs.Common.{◌+◌, ◌-◌, ◌<◌, ◌≤◌, ◌++◌, ◌∙◌, List, ap, take, drop, length, map, arith, rules}
 use Rattle.med_value.specs.declared.cause.Cause.TheVariants.{TooLarge}
 use Rattle.csv.specs.Records.{fields_of}
 use Rattle.csv_tables.specs.CsvRecords.{Record}

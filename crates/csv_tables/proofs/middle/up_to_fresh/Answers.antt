@@ -1,4 +1,4 @@
-use Rattle.std.proofs.Common.{◌≡◌, ◌-◌, ◌++◌, ◌∙◌, [], length, map, take, drop, arith, rules}
+use Rattle.std.proofs.Common.{◌-◌, ◌++◌, map, take, drop, rules}
 use Rattle.csv.specs.Records.{fields_of}
 use Rattle.csv_tables.specs.Tables.{records_of}
 use Rattle.csv_tables.proofs.Gathering.{no_lines, replaces_none, replaces_fresh}

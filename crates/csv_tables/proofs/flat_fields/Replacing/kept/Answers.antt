@@ -1,4 +1,4 @@
-use Rattle.std.proofs.Common.{◌≡◌, ◌+◌, ◌++◌, ◌∙◌, ap, sym, drop, length, arith}
+use Rattle.std.proofs.Common.{◌≡◌, ◌+◌, ◌++◌, ap, length, arith}
 use Rattle.std.proofs.lemmas.List.{drop_at, length-append}
 use Rattle.wrapper_parts.specs.Splices.{front_of, middle_of, back_of}
 use Rattle.csv_tables.proofs.flat_fields.Replacing.kept.Goals as goal
