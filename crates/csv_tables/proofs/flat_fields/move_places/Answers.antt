@@ -1,4 +1,4 @@
-use Rattle.std.proofs.Common.{◌≡◌, ◌<◌, ◌+◌, ◌-◌, ◌∙◌, ap, get_or, length, suc, arith, slice_set, map, take, drop, ◌++◌, ℕ, List}
+use Rattle.std.proofs.Common.{◌≡◌, ◌<◌, ◌+◌, ◌∙◌, ap, get_or, length, suc, arith, slice_set, map, take, drop, ◌++◌, ℕ, List}
 use Rattle.csv_tables.specs.Held.{moved}
 use Rattle.csv_tables.proofs.Exchanging.{place_there, place_moved}
 use Rattle.csv_tables.proofs.flat_fields.move_places.Goals as goal

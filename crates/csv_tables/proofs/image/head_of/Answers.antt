@@ -1,4 +1,4 @@
-use Rattle.std.proofs.Common.{◌++◌, ◌∙◌, true, ap, sym, List, ℕ}
+use Rattle.std.proofs.Common.{◌++◌, ◌∙◌, ap, sym, List, ℕ}
 use Rattle.csv_tables.specs.CsvRecords.{csv_records, heading}
 use Rattle.csv_tables.specs.Flat.{header_in}
 use Rattle.csv_tables.specs.Rewriting.{held_text, records_with}

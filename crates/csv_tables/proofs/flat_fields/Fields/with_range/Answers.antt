@@ -1,4 +1,4 @@
-use Rattle.std.proofs.Common.{◌≡◌, ◌≤◌, ◌+◌, ◌-◌, ◌++◌, ◌∙◌, [], ap, sym, map, take, drop, length, arith, List, ℕ}
+use Rattle.std.proofs.Common.{◌≡◌, ◌≤◌, ◌-◌, ◌++◌, ◌∙◌, [], ap, sym, map, take, drop, length, arith, List, ℕ}
 use Rattle.std.proofs.lemmas.List.{take_at, drop_at, length-append}
 use Rattle.csv.specs.Records.{last_end, prev}
 use Rattle.csv_tables.specs.Held.{held_of, moved}

@@ -1,4 +1,4 @@
-use Rattle.std.proofs.Common.{◌≡◌, ◌≤◌, ◌+◌, ◌-◌, [], ◌∙◌, ℕ, ap, sym, map, take, drop, length, arith}
+use Rattle.std.proofs.Common.{◌≡◌, ◌≤◌, ◌+◌, [], ◌∙◌, ℕ, ap, sym, map, take, drop, length, arith}
 use Rattle.csv.specs.Records.{last_end, prev}
 use Rattle.wrapper_parts.specs.Splices.{front_of, middle_of, back_of}
 use Rattle.csv_tables.specs.Held.{held_of, moved}
