@@ -7,7 +7,7 @@ use Rattle.jsonl_wrapper.specs.declared.lines.Span.{Span}
 use Rattle.jsonl_wrapper.specs.Lines.{text_of, line_at, lines_at, spans_from, moved, is_movable, IsImage}
 use Rattle.jsonl_wrapper.proofs.LineLaws.{text_both, text_size, places_both, image_with}
 
-zero_more : (n : ℕ) → 0 + n ≡ n
+pub zero_more : (n : ℕ) → 0 + n ≡ n
 zero_more n = omega arith
 
 both : (a b : Bool) → (a && b) ≡ true → (a ≡ true) × (b ≡ true)
@@ -15,7 +15,7 @@ both true b e = (refl, e)
 both false b e = absurd cc
 
 -- so many places as lines, each as far behind the first as the lines before it are long
-places_count : (at : ℕ) (ls : List (List ℕ)) → length (spans_from at ls) ≡ length ls
+pub places_count : (at : ℕ) (ls : List (List ℕ)) → length (spans_from at ls) ≡ length ls
 places_count at [] = refl
 places_count at (l ∷ ls) = ap suc (places_count (at + length l + 1) ls)
 
@@ -87,7 +87,7 @@ moves from to n (l ∷ ls) le =
     (moves from to (n + length l + 1) ls (omega arith) ∙ ap (λ (k : ℕ). spans_from k ls) b)
 
 -- a list, cut at two places
-upto_both : {X : Type 0} (xs : List X) (from to : ℕ) → from ≤ to → take to xs ≡ take from xs ++ slice_range xs from to
+pub upto_both : {X : Type 0} (xs : List X) (from to : ℕ) → from ≤ to → take to xs ≡ take from xs ++ slice_range xs from to
 upto_both {X} xs from to le =
     let m = to - from in
     let e : to ≡ from + m = omega arith in

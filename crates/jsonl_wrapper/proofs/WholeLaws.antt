@@ -93,12 +93,12 @@ wholes_count t =
     sym (length-map t.wholes.items whole_is) ∙ ap length t.kept ∙ wholes_length (readers_in t) (lines_in t)
     ∙ ap (λ (n : ℕ). n * length (whole_readers (readers_in t))) (lines_count t.content.items t.lines.items)
 
-map_take : {X Y : Type 0} (f : X → Y) (n : ℕ) (xs : List X) → map f (take n xs) ≡ take n (map f xs)
+pub map_take : {X Y : Type 0} (f : X → Y) (n : ℕ) (xs : List X) → map f (take n xs) ≡ take n (map f xs)
 map_take f zero xs = refl
 map_take f (suc n) [] = refl
 map_take f (suc n) (x ∷ xs) = ap (λ (ys : List _). f x ∷ ys) (map_take f n xs)
 
-map_drop : {X Y : Type 0} (f : X → Y) (n : ℕ) (xs : List X) → map f (drop n xs) ≡ drop n (map f xs)
+pub map_drop : {X Y : Type 0} (f : X → Y) (n : ℕ) (xs : List X) → map f (drop n xs) ≡ drop n (map f xs)
 map_drop f zero xs = refl
 map_drop f (suc n) [] = refl
 map_drop f (suc n) (x ∷ xs) = map_drop f n xs
@@ -169,7 +169,7 @@ wholes_follow readers lines more all kept next is en ea =
     en ∙ ap (λ (vs : Tuple). vs ++ wholes_of readers more) is ∙ sym (flat_map-append (wholes_at readers) lines more) ∙ ap (wholes_of readers) (sym ea)
 
 -- the cells of some first lines, and of the others
-wholes_drop : (readers : List Reader) (lines : List (List ℕ)) (n : ℕ)
+pub wholes_drop : (readers : List Reader) (lines : List (List ℕ)) (n : ℕ)
     → drop (n * length (whole_readers readers)) (wholes_of readers lines) ≡ wholes_of readers (drop n lines)
 wholes_drop readers lines zero =
     let w = length (whole_readers readers) in
@@ -182,7 +182,7 @@ wholes_drop readers (l ∷ ls) (suc n) =
     ap (λ (k : ℕ). drop k (wholes_at readers l ++ wholes_of readers ls)) e
     ∙ drop-append-add (wholes_at readers l) (wholes_of readers ls) (n * w) ∙ wholes_drop readers ls n
 
-wholes_take : (readers : List Reader) (lines : List (List ℕ)) (n : ℕ)
+pub wholes_take : (readers : List Reader) (lines : List (List ℕ)) (n : ℕ)
     → take (n * length (whole_readers readers)) (wholes_of readers lines) ≡ wholes_of readers (take n lines)
 wholes_take readers lines zero =
     let w = length (whole_readers readers) in
