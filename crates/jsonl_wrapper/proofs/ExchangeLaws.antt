@@ -1,7 +1,7 @@
 -- A range of a table's lines that is exchanged, in its bytes, its places and its integers.
-use Rattle.std.proofs.Common.{◌≡◌, ◌≤◌, ◌<◌, ◌+◌, ◌-◌, ◌*◌, ◌^◌, ◌&&◌, ◌++◌, ◌∙◌, ℕ, ℤ, zero, suc, Bool, true, false, List, [], ◌∷◌, Option, length, map, take, drop, get_or, slice_set, refl, ap, sym, subst, arith, rules}
-use Rattle.std.specs.List.{slice_range, list_all}
-use Rattle.std.proofs.lemmas.List.{append-nil, append_assoc, length-append, length-take-le, length-drop, take_at, drop_at, take-append-drop, map-append}
+use Rattle.std.proofs.Common.{◌≡◌, ◌≤◌, ◌<◌, ◌+◌, ◌-◌, ◌*◌, ◌^◌, ◌&&◌, ◌++◌, ◌∙◌, ℕ, zero, suc, Bool, true, false, List, [], ◌∷◌, length, map, take, drop, get_or, slice_set, refl, ap, sym, subst, arith}
+use Rattle.std.specs.List.{list_all}
+use Rattle.std.proofs.lemmas.List.{length-append, length-take-le, length-drop, take_at, drop_at, take-append-drop, map-append}
 use Rattle.std.proofs.lemmas.List.Concat.{flat_map-append}
 use Rattle.std.proofs.Math.ListN.{drop_of_length-le}
 use Rattle.med_value.specs.Datum.{Tuple}
@@ -13,7 +13,7 @@ use Rattle.jsonl_wrapper.specs.declared.exchange.Exchange.{Exchange}
 use Rattle.jsonl_wrapper.specs.Lines.{text_of, lines_at, spans_from, moved, is_movable, IsImage}
 use Rattle.jsonl_wrapper.specs.Tables.{readers_in, lines_in}
 use Rattle.jsonl_wrapper.specs.Wholes.{whole_is, whole_readers, wholes_at, wholes_of}
-use Rattle.jsonl_wrapper.specs.Changes.{IsWritten, Replaces, IsCut, Exchanges}
+use Rattle.jsonl_wrapper.specs.Changes.{Replaces, IsCut, Exchanges}
 use Rattle.jsonl_wrapper.specs.Contents.{rows_of_lines, image_too_large, is_too_large, lines_held}
 use Rattle.jsonl_wrapper.proofs.LineLaws.{text_both, places_both, image_stands}
 use Rattle.jsonl_wrapper.proofs.RangeLaws.{places_count, range_of_bytes, movable, moves}

@@ -1,5 +1,5 @@
 -- Lines that come into the place of a range of a table's.
-use Rattle.std.proofs.Common.{◌≡◌, ◌≤◌, ◌<◌, ◌+◌, ◌-◌, ◌++◌, ◌∙◌, ℕ, Bool, true, false, List, [], ◌∷◌, String, Global, Option, length, map, take, drop, refl, ap, sym, subst, arith, rules, string_bytes}
+use Rattle.std.proofs.Common.{◌≡◌, ◌≤◌, ◌<◌, ◌+◌, ◌-◌, ◌++◌, ◌∙◌, ℕ, true, List, [], length, take, drop, refl, ap, sym, subst, arith}
 use Rattle.std.specs.List.{slice_range}
 use Rattle.std.proofs.lemmas.List.{append-nil, append_assoc, length-drop, take_all}
 use Rattle.std.proofs.Math.ListN.{drop_of_length-le}
@@ -7,7 +7,7 @@ use Rattle.jsonl_wrapper.specs.declared.table.JsonTable.{JsonTable}
 use Rattle.jsonl_wrapper.specs.declared.made.LinesWritten.{LinesWritten}
 use Rattle.jsonl_wrapper.specs.declared.middle.Middle.{Middle}
 use Rattle.jsonl_wrapper.specs.Tables.{readers_in, lines_in}
-use Rattle.jsonl_wrapper.specs.Changes.{IsWritten, Leads, Leaves, Replaces, set_lines}
+use Rattle.jsonl_wrapper.specs.Changes.{IsWritten, Leads, Leaves, Replaces}
 use Rattle.jsonl_wrapper.proofs.RangeLaws.{upto_both}
 use Rattle.jsonl_wrapper.proofs.RisingKeys.{lines_count}
 

@@ -1,5 +1,5 @@
 -- The bytes, the places and the integers of tables that go into drafts, and come out of them.
-use Rattle.std.proofs.Common.{◌≡◌, ◌*◌, ◌++◌, ◌∙◌, ℕ, ℤ, Bool, true, List, [], Option, length, map, take, drop, ap, sym, subst}
+use Rattle.std.proofs.Common.{◌≡◌, ◌*◌, ◌++◌, ◌∙◌, ℕ, ℤ, Bool, true, List, Option, length, map, take, drop, ap, sym, subst}
 use Rattle.jsonl_wrapper.specs.declared.lines.Span.{Span}
 use Rattle.jsonl_wrapper.specs.declared.table.JsonTable.{JsonTable}
 use Rattle.jsonl_wrapper.specs.declared.exchange.Exchange.{Exchange}

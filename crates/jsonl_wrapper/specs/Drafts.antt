@@ -1,5 +1,5 @@
 -- Tables of which a write is under way.
-use Rattle.std.specs.Prelude.{◌≡◌, ℕ, List, ◌++◌, map}
+use Rattle.std.specs.Prelude.{ℕ, List, ◌++◌, map}
 use Rattle.wrapper_parts.specs.declared.splice.Splice.{Splice}
 use Rattle.wrapper_parts.specs.Splices.{before_of, after_of, front_of, middle_of, back_of}
 use Rattle.jsonl_wrapper.specs.declared.lines.Span.{Span}

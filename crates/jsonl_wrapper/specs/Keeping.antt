@@ -1,5 +1,5 @@
 -- What a draft of a table comes to, and what comes back where none is made.
-use Rattle.std.specs.Prelude.{◌≡◌, ◌*◌, ◌++◌, List, ℕ, map, take, drop}
+use Rattle.std.specs.Prelude.{◌≡◌, ◌*◌, ◌++◌, ℕ, map, take, drop}
 use Rattle.wrapper_parts.specs.Splices.{before_of, after_of, front_of, middle_of, back_of}
 use Rattle.jsonl_wrapper.specs.declared.table.JsonTable.{JsonTable}
 use Rattle.jsonl_wrapper.specs.declared.exchange.Exchange.{Exchange}

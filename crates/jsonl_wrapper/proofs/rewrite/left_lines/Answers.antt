@@ -1,11 +1,11 @@
-use Rattle.std.proofs.Common.{◌≡◌, ◌+◌, ◌∷◌, ◌++◌, ◌∙◌, [], List, ℕ, String, Global, Option, Some, None, length, map, drop, ap, subst, sym, refl, rules, arith}
+use Rattle.std.proofs.Common.{◌≡◌, ◌+◌, ◌∷◌, ◌++◌, ◌∙◌, [], List, ℕ, String, Global, Option, drop, ap, subst, sym, arith}
 use Rattle.std.specs.List.{slice_range}
 use Rattle.std.specs.List.Sorted.{IsStrictlySortedBy}
 use Rattle.std.specs.Ordering.{nat_cmp}
 use Rattle.std.specs.Map.{keys_of}
 use Rattle.std.proofs.lemmas.Map.Iter.{rest_more, rest_all}
 use Rattle.jsonl_wrapper.specs.Tables.{lines_in}
-use Rattle.jsonl_wrapper.specs.Changes.{Leads, left_by, fates_of, set_lines}
+use Rattle.jsonl_wrapper.specs.Changes.{left_by, fates_of, set_lines}
 use Rattle.jsonl_wrapper.proofs.ChangeLaws.{Behind, left_from, set_next, set_past, set_end, put_on, all_from_zero}
 use Rattle.jsonl_wrapper.proofs.MiddleLaws.{run_to_end}
 use Rattle.jsonl_wrapper.proofs.RisingKeys.{lines_count}
