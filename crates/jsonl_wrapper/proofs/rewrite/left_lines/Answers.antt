@@ -26,8 +26,8 @@ loop-id-init c =
       leads = ([], c.requires.none, ap (λ (k : ℕ). left_from es k (drop k (lines_in c.args.table.now))) zero);
     }
 
-pub loop-id-preserved-then-place-len : goal.loop-id-preserved-then-place-len
-loop-id-preserved-then-place-len c =
+pub loop-id-preserved-in-Continue-branch-2 : goal.loop-id-preserved-in-Continue-branch-2
+loop-id-preserved-in-Continue-branch-2 c =
     let t = c.args.table.now in
     let k = c.in-Some.id in
     let o = c.in-Some.line in
@@ -55,6 +55,24 @@ loop-id-preserved-then-place-len c =
 
 pub loop-id-preserved-else-place-len : goal.loop-id-preserved-else-place-len
 loop-id-preserved-else-place-len c =
+    let t = c.args.table.now in
+    let k = c.in-Some.id in
+    let o = c.in-Some.line in
+    let at = c.loop-id.middle.to in
+    let es = c.next.new.self in
+    let i = c.loop-id.invariant in
+    let first : c.loop-id.id-iterator ≡ (k, o) ∷ es = rest_more (λ p. p) c.loop-id.id-iterator es c.next.result (k, o) c.in-Some.is c.next.ensures.steps in
+    let count = lines_count t in
+    let p = set_past k o es at (lines_in t) (subst (Behind at) first i.behind) (subst (λ (l : Entries). IsStrictlySortedBy nat_cmp (keys_of l)) first i.sorted) (omega arith) (omega arith) in
+    record {
+      within = i.within;
+      behind = p.1;
+      sorted = p.2;
+      leads = (i.leads.0, i.leads.1, ap (λ (ls : List (List ℕ)). i.leads.0 ++ ls) (sym (ap (λ (l : Entries). left_from l at (drop at (lines_in t))) first ∙ p.0)) ∙ i.leads.2);
+    }
+
+pub loop-id-preserved : goal.loop-id-preserved
+loop-id-preserved c =
     let t = c.args.table.now in
     let k = c.in-Some.id in
     let o = c.in-Some.line in
