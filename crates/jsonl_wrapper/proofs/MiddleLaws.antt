@@ -1,5 +1,5 @@
 -- Lines that come into the place of a range of a table's.
-use Rattle.std.proofs.Common.{◌≡◌, ◌≤◌, ◌<◌, ◌+◌, ◌-◌, ◌++◌, ◌∙◌, ℕ, true, List, [], length, take, drop, refl, ap, sym, subst, arith}
+use Rattle.std.proofs.Common.{◌≡◌, ◌≤◌, ◌+◌, ◌-◌, ◌++◌, ◌∙◌, ℕ, true, List, [], length, take, drop, refl, ap, sym, subst, arith}
 use Rattle.std.specs.List.{slice_range}
 use Rattle.std.proofs.lemmas.List.{append-nil, append_assoc, length-drop, take_all}
 use Rattle.std.proofs.Math.ListN.{drop_of_length-le}
@@ -68,40 +68,12 @@ lead_push t m n place lines le within ef et push is =
       whole = λ no. ef ∙ is.whole no;
     }
 
--- another line, or none, in the place of the next one
-pub lead_put : (t : JsonTable) (m n : Middle) (new lines : Lines) → m.to < length t.lines.items → n.from ≡ m.from → n.to ≡ m.to + 1
-    → ((ls : Lines) → IsWritten (readers_in t) m.made ls → IsWritten (readers_in t) n.made (ls ++ new))
-    → Leads t m lines → Leads t n (lines ++ new)
-lead_put t m n new lines lt ef et push is =
-    let all = lines_in t in
-    let o = is.order in
-    record {
-      order = omega arith;
-      within = omega arith;
-      middle = is.middle ++ new;
-      written = push is.middle is.written;
-      are = ap (λ (ls : Lines). ls ++ new) is.are ∙ append_assoc (take m.from all) is.middle new ∙ ap (λ (k : ℕ). take k all ++ (is.middle ++ new)) (sym ef);
-      none = λ e. absurd (omega arith);
-      whole = λ no. ef ∙ is.whole no;
-    }
-
 -- the lines behind a place, as they are
 pub run_to_end : (t : JsonTable) (at : ℕ) → slice_range (lines_in t) at (length t.lines.items) ≡ drop at (lines_in t)
 run_to_end t at =
     let long = length-drop at (lines_in t) in
     let many = lines_count t in
     take_all (length t.lines.items - at) (drop at (lines_in t)) (omega arith)
-
--- no new line behind those that are left
-pub close_none : (t : JsonTable) (m : Middle) (lines new : Lines) → t.is_image ≡ true → new ≡ [] → Leaves t m lines → Replaces t m (lines ++ new)
-close_none t m lines new image en (done, is, all) = record {
-  order = is.order;
-  within = is.within;
-  middle = is.middle;
-  written = is.written;
-  are = ap (λ (ls : Lines). lines ++ ls) en ∙ append-nil lines ∙ sym all ∙ ap (λ (ls : Lines). ls ++ drop m.to (lines_in t)) is.are;
-  whole = λ no. absurd (cc);
-}
 
 -- new lines behind all
 pub close_new : (t : JsonTable) (m n p : Middle) (lines new : Lines) → n.to ≡ length t.lines.items → p.from ≡ n.from → p.to ≡ n.to
