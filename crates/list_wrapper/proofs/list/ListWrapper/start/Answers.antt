@@ -1,5 +1,6 @@
 use Rattle.std.proofs.Common.{◌≡◌, List, false, map, length, slice_get, slice_index_or, ap, sym, refl, subst, arith, rules}
 use Rattle.std.proofs.lemmas.Option.{slice_get_within, slice_get_read}
+use Rattle.std.proofs.lemmas.Result.{err_from_is_err_and}
 use Rattle.list_wrapper.proofs.Closing.{marked_there}
 use Rattle.med_value.specs.declared.value.Row.{Row}
 use Rattle.med_value.specs.Datum.{Tuple, datum}
@@ -105,3 +106,15 @@ index-requires c =
     let w = marked_there (slice_index_or s.bound.items c.args.t.number false) (slice_get s.tables.items c.args.t.number) c.requires in
     let within = slice_get_within s.tables.items c.args.t.number w.1 w.2 in
     search rules
+
+pub returns-in_err-spec-clause-err : goal.returns-in_err-spec-clause-err
+returns-in_err-spec-clause-err c =
+    let s = c.args.self.now in
+    let p = err_from_is_err_and c.from_residual-in_err-spec.result c.from_residual-in_err-spec.ensures.1 in
+    rw (p.1, p.2) (refused_begin s.tables.items s.bound.items s.scans s.scans s.staged s.next s.pulled refl)
+
+pub returns-in_err-params-clause-err : goal.returns-in_err-params-clause-err
+returns-in_err-params-clause-err c =
+    let s = c.args.self.now in
+    let p = err_from_is_err_and c.from_residual-in_err-params.result c.from_residual-in_err-params.ensures.1 in
+    rw (p.1, p.2) (refused_begin s.tables.items s.bound.items s.scans s.scans s.staged s.next s.pulled refl)
