@@ -1,9 +1,7 @@
 -- What staged changes make of the rows of a list.
-use Rattle.std.proofs.Common.{◌≡◌, ℕ, ◌+◌, ◌-◌, ◌<◌, ◌≤◌, ◌⊎◌, inl, inr, cond, Bool, true, false, if◌then◌else◌, nat_eq, List, [], ◌∷◌, ◌++◌, length, map, flat_map, take, drop, get_or, set, suc, zero, refl, ap, sym, ◌∙◌, subst, arith, length-append, length-set, append_assoc}
-use Rattle.std.specs.List.{count_by, list_any, SwappedAt}
-use Rattle.std.proofs.lemmas.List.{drop_more, drop_all, take_more_set, take-set, take-set-le, drop-set-lt, get_or_past}
+use Rattle.std.proofs.Common.{◌≡◌, ℕ, ◌+◌, ◌-◌, ◌<◌, ◌≤◌, cond, Bool, true, false, if◌then◌else◌, nat_eq, List, [], ◌∷◌, ◌++◌, length, map, flat_map, drop, get_or, suc, refl, ap, sym, ◌∙◌, subst, arith, length-append}
+use Rattle.std.specs.List.{count_by, list_any}
 use Rattle.std.proofs.lemmas.List.Sums.{sum_by-cons}
-use Rattle.std.proofs.lemmas.Bool.{cases_lt}
 use Rattle.med_value.specs.declared.value.Row.{Row}
 use Rattle.fdw_api.specs.Prelude.{Held, held, row_after, inserted, rows_after}
 use Rattle.list_wrapper.specs.declared.changes.ListChange.{ListChange}

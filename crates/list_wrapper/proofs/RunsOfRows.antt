@@ -1,7 +1,6 @@
 -- Rows in runs: where each stands, and what a change of one run makes of all rows.
-use Rattle.std.proofs.Common.{◌≡◌, ℕ, ◌+◌, ◌-◌, ◌^◌, ◌<◌, ◌≤◌, Bool, true, false, List, [], ◌∷◌, ◌++◌, length, take, drop, get_or, set, min, suc, zero, refl, ap, sym, ◌∙◌, arith, length-append, append_assoc, append-nil, subst, length-take, length-drop}
+use Rattle.std.proofs.Common.{◌≡◌, ℕ, ◌+◌, ◌<◌, ◌≤◌, Bool, true, false, List, [], ◌∷◌, ◌++◌, length, take, drop, get_or, set, suc, zero, refl, ap, sym, ◌∙◌, arith, length-append, append_assoc, append-nil, subst, length-take, length-drop}
 use Rattle.std.specs.List.{insert}
-use Rattle.std.specs.Vec.{vec_len, vec_capacity}
 use Rattle.std.proofs.lemmas.List.{get_or_append_left, get_or-append-add, set-append_left, set-append_right, take-append-le, drop-append-le, drop_more, drop_all, take_all, take_more_set, drop-set-lt}
 use Rattle.med_value.specs.declared.value.Row.{Row}
 use Rattle.list_wrapper.specs.declared.runs.Run.{Run}

@@ -45,7 +45,9 @@ pub struct ListTable {
 /// over the places of the keys for which it asks, found by halves, unless an order is promised. It promises each order that is wished, and
 /// each limit: a scan of which an order is promised sorts the places of the rows that it takes as it begins, and as it is begun again. A
 /// write that is kept leaves the rows that stay in list order, and then the new ones; over 1,000,000 rows it is refused by
-/// `Cause::TooLarge` (54000). Whether the first column still rises it tells by its changes. A refused call uses no ticket number up.
+/// `Cause::TooLarge` (54000). The rows are held in runs, so that an INSERT, an UPDATE or a DELETE of one row moves no more of the others
+/// than its run has. Whether the first column still rises a write tells by its changes, and by the rows that are left where it takes
+/// several out. A refused call uses no ticket number up.
 #[derive(Drop)]
 pub struct ListWrapper {
     tables: Vec<Table>,

@@ -1,4 +1,4 @@
-use Rattle.std.proofs.Common.{◌≡◌, ◌<◌, ◌≤◌, ◌+◌, ◌++◌, ℕ, drop, length, get_or}
+use Rattle.std.proofs.Common.{◌≡◌, ◌<◌, ◌≤◌, ◌++◌, ℕ, drop, length, get_or}
 use Rattle.med_value.specs.declared.value.Row.{Row}
 use Rattle.list_wrapper.specs.Changes.{row_changed, fresh_rows}
 use Rattle.list_wrapper.proofs.changes.write_rows.Given as goal

@@ -1,8 +1,7 @@
-use Rattle.std.proofs.Common.{◌≡◌, ◌≤◌, ◌<◌, ◌+◌, ◌-◌, ◌^◌, ◌++◌, ◌∷◌, [], ℕ, List, true, false, length, drop, take, get_or, set, refl, ap, sym, ◌∙◌, subst, arith, rules, suc}
+use Rattle.std.proofs.Common.{◌≡◌, ◌≤◌, ◌++◌, ◌∷◌, [], ℕ, List, length, ap, sym, ◌∙◌, subst, arith, rules}
 use Rattle.med_value.specs.declared.value.Row.{Row}
 use Rattle.list_wrapper.specs.declared.runs.Run.{Run}
-use Rattle.list_wrapper.specs.Runs.{rows_in, run_rows, before, Counted, IsSpot, room_of, room_in}
-use Rattle.list_wrapper.specs.Stay.{stay}
+use Rattle.list_wrapper.specs.Runs.{rows_in, before, Counted, room_of, room_in}
 use Rattle.list_wrapper.proofs.RunsOfRows.{count_push, room_push, rows_append, before_all}
 use Rattle.std.proofs.Common.{append-nil}
 use Rattle.list_wrapper.proofs.runs.begin_run.Goals as goal

@@ -1,8 +1,6 @@
-use Rattle.std.proofs.Common.{◌≡◌, ◌≤◌, ◌<◌, ◌+◌, ◌-◌, ◌^◌, ◌++◌, ◌∷◌, [], ℕ, List, true, false, length, drop, take, get_or, set, refl, ap, sym, ◌∙◌, subst, arith, rules, suc, length-set}
-use Rattle.med_value.specs.declared.value.Row.{Row}
+use Rattle.std.proofs.Common.{◌≡◌, ◌+◌, List, length, get_or, set, ap, sym, ◌∙◌, subst, arith, rules}
 use Rattle.list_wrapper.specs.declared.runs.Run.{Run}
-use Rattle.list_wrapper.specs.Runs.{rows_in, run_rows, before, Counted, IsSpot, room_of, room_in}
-use Rattle.list_wrapper.specs.Stay.{stay}
+use Rattle.list_wrapper.specs.Runs.{rows_in, run_rows}
 use Rattle.list_wrapper.proofs.RunsOfRows.{run_is, cut_rows, cut_first, same_rows}
 use Rattle.std.specs.List.{insert}
 use Rattle.list_wrapper.proofs.runs.cut.Goals as goal

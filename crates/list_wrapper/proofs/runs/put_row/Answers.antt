@@ -1,8 +1,7 @@
-use Rattle.std.proofs.Common.{◌≡◌, ◌≤◌, ◌<◌, ◌+◌, ◌-◌, ◌^◌, ◌++◌, ◌∷◌, [], ℕ, List, true, false, length, drop, take, get_or, set, refl, ap, sym, ◌∙◌, subst, arith, rules, suc, length-set}
+use Rattle.std.proofs.Common.{◌≡◌, ◌<◌, ℕ, List, length, set, refl, ap, sym, ◌∙◌, subst, arith, rules, length-set}
 use Rattle.med_value.specs.declared.value.Row.{Row}
 use Rattle.list_wrapper.specs.declared.runs.Run.{Run}
-use Rattle.list_wrapper.specs.Runs.{rows_in, run_rows, before, Counted, IsSpot, room_of, room_in}
-use Rattle.list_wrapper.specs.Stay.{stay}
+use Rattle.list_wrapper.specs.Runs.{rows_in, IsSpot}
 use Rattle.list_wrapper.proofs.RunsOfRows.{run_is, row_put, count_same, room_same}
 use Rattle.std.specs.Vec.{with_item}
 use Rattle.list_wrapper.specs.declared.runs.Spot.{Spot}

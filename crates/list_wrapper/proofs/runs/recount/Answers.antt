@@ -1,8 +1,6 @@
-use Rattle.std.proofs.Common.{◌≡◌, ◌≤◌, ◌<◌, ◌+◌, ◌-◌, ◌^◌, ◌++◌, ◌∷◌, [], ℕ, List, true, false, length, drop, take, get_or, set, refl, ap, sym, ◌∙◌, subst, arith, rules, suc, length-set}
-use Rattle.med_value.specs.declared.value.Row.{Row}
+use Rattle.std.proofs.Common.{◌≡◌, ◌≤◌, ◌<◌, ◌+◌, List, length, refl, ap, sym, ◌∙◌, subst, arith, rules, length-set}
 use Rattle.list_wrapper.specs.declared.runs.Run.{Run}
-use Rattle.list_wrapper.specs.Runs.{rows_in, run_rows, before, Counted, IsSpot, room_of, room_in}
-use Rattle.list_wrapper.specs.Stay.{stay}
+use Rattle.list_wrapper.specs.Runs.{run_rows, Counted}
 use Rattle.list_wrapper.proofs.RunsOfRows.{run_is, same_rows, before_none, before_more, before_within, before_set, count_more}
 use Rattle.std.proofs.lemmas.List.{take_all}
 use Rattle.list_wrapper.proofs.runs.recount.Goals as goal

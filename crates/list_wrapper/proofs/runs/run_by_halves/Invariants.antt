@@ -1,8 +1,5 @@
-use Rattle.std.proofs.Common.{◌≡◌, ◌≤◌, ◌<◌, ◌+◌, ◌-◌, ◌^◌, ◌++◌, ◌∷◌, [], ℕ, List, true, false, length, drop, take, get_or, set, refl, ap, sym, ◌∙◌, subst, arith, rules, suc}
-use Rattle.med_value.specs.declared.value.Row.{Row}
-use Rattle.list_wrapper.specs.declared.runs.Run.{Run}
-use Rattle.list_wrapper.specs.Runs.{rows_in, run_rows, before, Counted, IsSpot, room_of, room_in}
-use Rattle.list_wrapper.specs.Stay.{stay}
+use Rattle.std.proofs.Common.{◌≤◌, ◌<◌, ◌-◌, length}
+use Rattle.list_wrapper.specs.Runs.{before}
 use Rattle.list_wrapper.proofs.runs.run_by_halves.Given as goal
 
 abbrev pub invariant-loop-first : goal.invariant-loop-first

@@ -1,8 +1,4 @@
-use Rattle.std.proofs.Common.{◌≡◌, ◌≤◌, ◌<◌, ◌+◌, ◌-◌, ◌^◌, ◌++◌, ◌∷◌, [], ℕ, List, true, false, length, drop, take, get_or, set, refl, ap, sym, ◌∙◌, subst, arith, rules, suc, length-set}
-use Rattle.med_value.specs.declared.value.Row.{Row}
-use Rattle.list_wrapper.specs.declared.runs.Run.{Run}
-use Rattle.list_wrapper.specs.Runs.{rows_in, run_rows, before, Counted, IsSpot, room_of, room_in}
-use Rattle.list_wrapper.specs.Stay.{stay}
+use Rattle.std.proofs.Common.{arith}
 use Rattle.list_wrapper.proofs.RunsOfRows.{before_more}
 use Rattle.list_wrapper.proofs.runs.spot_of.Goals as goal
 

@@ -1,7 +1,6 @@
-use Rattle.std.proofs.Common.{◌≡◌, ◌≤◌, ◌<◌, ◌+◌, ◌-◌, ◌^◌, ◌++◌, ◌∷◌, [], ℕ, List, true, false, length, drop, take, get_or, set, refl, ap, sym, ◌∙◌, subst, arith, rules, suc, length-set}
-use Rattle.med_value.specs.declared.value.Row.{Row}
+use Rattle.std.proofs.Common.{◌≡◌, ◌≤◌, ◌<◌, ◌+◌, ◌++◌, ℕ, List, length, drop, take, set, ap, ◌∙◌, arith, rules, length-set}
 use Rattle.list_wrapper.specs.declared.runs.Run.{Run}
-use Rattle.list_wrapper.specs.Runs.{rows_in, run_rows, before, Counted, IsSpot, room_of, room_in}
+use Rattle.list_wrapper.specs.Runs.{rows_in}
 use Rattle.list_wrapper.specs.Stay.{stay}
 use Rattle.list_wrapper.proofs.RunsOfRows.{stay_next, all_stay}
 use Rattle.std.proofs.Common.{Bool}

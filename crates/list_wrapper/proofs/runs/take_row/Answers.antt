@@ -1,8 +1,7 @@
-use Rattle.std.proofs.Common.{◌≡◌, ◌≤◌, ◌<◌, ◌+◌, ◌-◌, ◌^◌, ◌++◌, ◌∷◌, [], ℕ, List, true, false, length, drop, take, get_or, set, refl, ap, sym, ◌∙◌, subst, arith, rules, suc, length-set}
+use Rattle.std.proofs.Common.{◌≡◌, ◌<◌, ◌+◌, ◌++◌, ℕ, List, length, drop, take, ap, sym, ◌∙◌, subst, arith, rules}
 use Rattle.med_value.specs.declared.value.Row.{Row}
 use Rattle.list_wrapper.specs.declared.runs.Run.{Run}
-use Rattle.list_wrapper.specs.Runs.{rows_in, run_rows, before, Counted, IsSpot, room_of, room_in}
-use Rattle.list_wrapper.specs.Stay.{stay}
+use Rattle.list_wrapper.specs.Runs.{rows_in, IsSpot}
 use Rattle.list_wrapper.proofs.RunsOfRows.{run_is, row_out}
 use Rattle.list_wrapper.specs.declared.runs.Spot.{Spot}
 use Rattle.list_wrapper.proofs.runs.take_row.Goals as goal

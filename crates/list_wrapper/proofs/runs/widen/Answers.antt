@@ -1,8 +1,5 @@
-use Rattle.std.proofs.Common.{◌≡◌, ◌≤◌, ◌<◌, ◌+◌, ◌-◌, ◌^◌, ◌++◌, ◌∷◌, [], ℕ, List, true, false, length, drop, take, get_or, set, refl, ap, sym, ◌∙◌, subst, arith, rules, suc}
-use Rattle.med_value.specs.declared.value.Row.{Row}
-use Rattle.list_wrapper.specs.declared.runs.Run.{Run}
-use Rattle.list_wrapper.specs.Runs.{rows_in, run_rows, before, Counted, IsSpot, room_of, room_in}
-use Rattle.list_wrapper.specs.Stay.{stay}
+use Rattle.std.proofs.Common.{◌≡◌, ◌≤◌, ℕ, length, refl, ap, sym, ◌∙◌, subst, arith}
+use Rattle.list_wrapper.specs.Runs.{before}
 use Rattle.list_wrapper.proofs.RunsOfRows.{run_is, same_rows, count_same, room_last, end_at, before_all}
 use Rattle.list_wrapper.proofs.runs.widen.Goals as goal
 

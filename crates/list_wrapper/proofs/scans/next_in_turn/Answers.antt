@@ -1,10 +1,8 @@
-use Rattle.std.proofs.Common.{◌≡◌, ◌<◌, ◌∙◌, length, true, false, ap, arith, rules}
+use Rattle.std.proofs.Common.{◌≡◌, ◌<◌, ◌∙◌, length, true, false, arith, rules}
 use Rattle.med_value.specs.Datum.{tuple}
-use Rattle.med_value.specs.declared.value.Row.{Row}
-use Rattle.fdw_api.specs.Scan.{shown_cells}
 use Rattle.wrapper_parts.specs.Scans.{takes}
 use Rattle.list_wrapper.specs.Scans.{spec_is, params_of}
-use Rattle.list_wrapper.proofs.Numbered.{one_row, within}
+use Rattle.list_wrapper.proofs.Numbered.{within}
 use Rattle.list_wrapper.proofs.Rows.{given_here, skipped_here, none_left}
 use Rattle.list_wrapper.proofs.scans.next_in_turn.Goals as goal
 
