@@ -1,6 +1,6 @@
 use Rattle.std.proofs.Common.{◌≡◌, ◌≤◌, ◌++◌, ◌-◌, drop, take, length}
-use Rattle.list_wrapper.specs.Changes.{stay}
-use Rattle.list_wrapper.proofs.changes.take_out.Given as goal
+use Rattle.list_wrapper.specs.Stay.{stay}
+use Rattle.list_wrapper.proofs.runs.take_out.Given as goal
 
 abbrev pub invariant-loop-at : goal.invariant-loop-at
 invariant-loop-at l = record {

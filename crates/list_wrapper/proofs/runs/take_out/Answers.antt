@@ -1,8 +1,8 @@
 use Rattle.std.proofs.Common.{◌≡◌, ◌∙◌, [], length, sym, ap, arith, rules}
-use Rattle.list_wrapper.specs.Changes.{stay}
-use Rattle.list_wrapper.proofs.Kept.{stay_none, no_marks, keeps_on, drops_on}
-use Rattle.list_wrapper.proofs.changes.take_out.Goals.{then-not-is_gone, else-not-is_gone}
-use Rattle.list_wrapper.proofs.changes.take_out.Goals as goal
+use Rattle.list_wrapper.specs.Stay.{stay}
+use Rattle.list_wrapper.proofs.TakingOut.{stay_none, no_marks, keeps_on, drops_on}
+use Rattle.list_wrapper.proofs.runs.take_out.Goals.{then-not-is_gone, else-not-is_gone}
+use Rattle.list_wrapper.proofs.runs.take_out.Goals as goal
 
 pub returns-then-is_empty : goal.returns-then-is_empty
 returns-then-is_empty c =
