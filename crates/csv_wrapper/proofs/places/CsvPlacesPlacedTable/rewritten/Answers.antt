@@ -22,8 +22,8 @@ invariant_of-result c =
           (rw c.deref.ensures.value at (c.stays_rising-rises.ensures told rose)));
     }
 
-pub invariant_of-table : goal.invariant_of-table
-invariant_of-table c = record { risen = λ told. told_like c.args.self.table c.in-Err.table c.in-Err.ensures.same (c.args.self.risen told) }
+pub invariant_of-result-in-Err : goal.invariant_of-result-in-Err
+invariant_of-result-in-Err c = record { risen = λ told. told_like c.args.self.table _ c.in-Err.ensures.same (c.args.self.risen told) }
 
 pub returns-in-Ok-clause-ok : goal.returns-in-Ok-clause-ok
 returns-in-Ok-clause-ok c = drafts c.args.self (map change_is c.args.changes.items) c.in-Ok.written c.in-Ok.ensures.before c.in-Ok.ensures.ok
@@ -34,4 +34,4 @@ returns-in-Err-clause-same c =
     same_shown c.args.self _ like.remote_is like.layout_is like.header_is like.records_are
 
 pub returns-in-Err-clause-err : goal.returns-in-Err-clause-err
-returns-in-Err-clause-err c = changes_refused c.args.self (map change_is c.args.changes.items) c.in-Err.fault c.in-Err.ensures.err
+returns-in-Err-clause-err c = changes_refused c.args.self (map change_is c.args.changes.items) c.in-Err.field-0.fault c.in-Err.ensures.err
