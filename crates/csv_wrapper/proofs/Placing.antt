@@ -19,18 +19,17 @@ use Rattle.csv_tables.specs.declared.table.CsvTable.{CsvTable}
 use Rattle.csv_tables.specs.declared.layout.Layout.{Layout}
 use Rattle.csv_tables.specs.declared.draft.TableDraft.{TableDraft}
 use Rattle.csv_tables.specs.Cells.{line_of}
-use Rattle.csv_tables.specs.CsvRecords.{Record, csv_records, csv_text, heading, body, has_field, is_header}
+use Rattle.csv_tables.specs.CsvRecords.{Record, csv_records, csv_text, heading, body}
 use Rattle.csv_tables.specs.Shapes.{Shape, shape_of, read_row, unless, content_causes, csv_image, records_in, all_whole, all_readable, causes_behind, hides_value, rows_text}
 use Rattle.csv_tables.specs.Content.{IsContent, TellsCause}
 use Rattle.csv_tables.specs.Flat.{header_in}
 use Rattle.csv_tables.specs.Tables.{shape_is, records_of, numbered, cells_at, fields_at}
 use Rattle.csv_tables.specs.Rewriting.{Rewrites as Remade, rows_in}
-use Rattle.csv_tables.specs.Drafted.{ShowsAs, IsBefore, IsAfter, records_kept, image_of}
+use Rattle.csv_tables.specs.Drafted.{ShowsAs, IsLike, IsBefore, IsAfter, records_kept, image_of}
 use Rattle.csv_tables.specs.Rises.{first_column}
 use Rattle.csv_tables.specs.Scans.{comes}
 use Rattle.csv_tables.proofs.Applying.{origins}
 use Rattle.csv_tables.proofs.Placing.{row_there, rows_count}
-use Rattle.csv_tables.proofs.Headers.{heading_is_header}
 use Rattle.place_wrapper.proofs.Rows.{here}
 use Rattle.place_wrapper.specs.Forms.{GivesAt, HasAt, ReadsAs, RefusesContent, Rewrites, Same, Drafts, RefusesChanges}
 use Rattle.csv_wrapper.specs.CsvKind.{csv_refusals, unless_of_run, three_of_run}
@@ -120,16 +119,6 @@ reads_as remote columns settings bytes t er es content = record {
   fits = content.header_is;
 }
 
--- a table of columns has a header of a field at least
-names_field : (names : List (String Global)) → 0 < length names → has_field (map string_bytes names) ≡ true
-names_field [] lt = absurd (omega arith)
-names_field (n ∷ ns) lt = refl
-
-pub heads : (l : Layout) (bytes : List ℕ) (header : List Record) → 0 < length l.names.items → heading l.header (map string_bytes l.names.items) (csv_records bytes) ≡ header
-    → is_header l.header header ≡ true
-heads l bytes header some e =
-    ap (is_header l.header) (sym e) ∙ heading_is_header l.header (map string_bytes l.names.items) bytes (names_field l.names.items some)
-
 -- changes that are refused
 pub changes_refused : (t : CsvPlaces) (changes : List Change) (fault : Fault) → TellsCause fault (causes_behind (shape_is t.table.layout) (header_in t.table.header) (rows_in t.table) changes)
     → RefusesChanges csv_form t changes fault
@@ -193,6 +182,9 @@ told_of t remote l header rs is =
 pub told_as : (xs ys : List Datum) → AreTold xs → xs ≡ ys → AreTold ys
 told_as xs ys told e = subst (λ (l : List Datum). AreTold l) e told
 
+pub told_like : (t u : CsvTable) → IsLike t u → AreTold (first_column t) → AreTold (first_column u)
+told_like t u is told = told_as _ _ told (sym (told_of u (string_bytes t.remote) t.layout (header_in t.header) (records_of t.rows) is))
+
 -- a content without causes is of a table with columns
 second_clear : (a b : Bool) (more : List Cause) → unless a TooLarge (unless b InvalidFormat more) ≡ [] → b ≡ true
 second_clear true true more e = refl
@@ -215,14 +207,6 @@ some_names (n ∷ names) kinds cs e k lt = omega arith
 
 pub names_there : (l : Layout) (columns : List Column) (settings : List OptionForm) → shape_is l ≡ shape_of columns settings → 0 < length l.kinds.items → 0 < length l.names.items
 names_there l columns settings e lt = some_names l.names.items l.kinds.items columns (ap (λ (s : Shape). s.names) e) (ap (λ (s : Shape). s.kinds) e) lt
-
-copied_names : (new old : List (String Global)) → map string_bytes new ≡ map string_bytes old → 0 < length old → 0 < length new
-copied_names [] [] e lt = absurd (omega arith)
-copied_names [] (n ∷ old) e lt = absurd cc
-copied_names (m ∷ new) old e lt = omega arith
-
-pub names_copied : (new old : Layout) → shape_is new ≡ shape_is old → 0 < length old.names.items → 0 < length new.names.items
-names_copied new old e lt = copied_names new.names.items old.names.items (ap (λ (s : Shape). s.names) e) lt
 
 -- the row at a place, by what its record has
 pub within_count : (t : CsvTable) (at : ℕ) → at < length (rows_in t) → at < t.rows.count
