@@ -1,10 +1,10 @@
 -- What changes make of a table, and the causes for which they are refused.
-use Rattle.std.proofs.Common.{◌≡◌, ℕ, suc, ◌+◌, ◌<◌, ◌≤◌, Bool, true, false, not, nat_le, nat_lt, List, [], ◌∷◌, ◌++◌, length, map, flat_map, replicate, Option, Contains, refl, ap, sym, ◌∙◌, arith}
+use Rattle.std.proofs.Common.{◌≡◌, ℕ, suc, ◌<◌, ◌≤◌, Bool, true, false, not, nat_le, nat_lt, List, [], ◌∷◌, ◌++◌, length, map, flat_map, replicate, Option, Contains, refl, ap, sym, ◌∙◌, subst, arith}
 use Rattle.std.specs.List.{list_any}
 use Rattle.std.specs.String.{string_bytes}
 use Rattle.std.specs.BTreeMap.{BTreeMap}
 use Rattle.std.proofs.lemmas.Bool.Decides.{nat_tests}
-use Rattle.std.proofs.lemmas.List.{map-append, length-append}
+use Rattle.std.proofs.lemmas.List.{map-append}
 use Rattle.std.proofs.lemmas.List.Elements.{Contains-append_left}
 use Rattle.csv.specs.Records.{fields_of}
 use Rattle.csv.specs.declared.record.ByteRecord.{ByteRecord}
@@ -16,15 +16,13 @@ use Rattle.fdw_api.specs.declared.interface.Fault.TheVariants.{NoMemory, Source,
 use Rattle.csv_tables.specs.declared.table.CsvTable.{CsvTable}
 use Rattle.wrapper_parts.specs.declared.fates.Fate.{Fate}
 use Rattle.wrapper_parts.specs.declared.fates.Fate.TheVariants.{Keep}
-use Rattle.csv_tables.specs.declared.written.Gathered.{Gathered}
-use Rattle.csv_tables.specs.declared.written.Written.{Written}
 use Rattle.csv_tables.specs.Cells.{line_of}
 use Rattle.csv_tables.specs.CsvRecords.{Record, csv_records, csv_text, heading}
 use Rattle.csv_tables.specs.Shapes.{Shape, read_row, unless, hides_value, causes_behind, rows_text}
 use Rattle.csv_tables.specs.Content.{TellsCause}
 use Rattle.csv_tables.specs.Flat.{header_in}
 use Rattle.csv_tables.specs.Tables.{shape_is, records_of, numbered}
-use Rattle.csv_tables.specs.Rewriting.{left_by, fates_of, rows_left, Gathers, Rewrites, rows_in}
+use Rattle.csv_tables.specs.Rewriting.{left_by, fates_of, rows_left, Rewrites, rows_in}
 use Rattle.csv_tables.proofs.Flat.{cut_length}
 use Rattle.csv_tables.proofs.Drafts.{told, under}
 use Rattle.csv_tables.proofs.Gathering.{left_kept}
@@ -38,7 +36,7 @@ length_rows : (shape : Shape) (rs : List Record) → length (map (read_row shape
 length_rows shape [] = refl
 length_rows shape (r ∷ rs) = ap suc (length_rows shape rs)
 
-length_lines : (fs : List ByteRecord) → length (map fields_of fs) ≡ length fs
+pub length_lines : (fs : List ByteRecord) → length (map fields_of fs) ≡ length fs
 length_lines [] = refl
 length_lines (f ∷ fs) = ap suc (length_lines fs)
 
@@ -59,17 +57,6 @@ pub rows_made : (t : CsvTable) (changed : BTreeMap ℕ (Option ByteRecord)) (fre
 rows_made t changed fresh changes same new =
     made (shape_is t.layout) (records_of t.rows) (map fields_of fresh) t.rows.count (fates_of changed t.rows.count) changes (cut_length t.rows.count t.rows.width (held_of t.rows.fields)) (same t.rows.count (records_of t.rows)) new
 
--- how many records were put together
-pub gathered_size : (width : ℕ) (rs : List Record) (g : Gathered) → Gathers width rs g → length rs ≡ g.count
-gathered_size width rs g h = h.count_is
-
-pub all_size : (width : ℕ) (rs : List Record) (g : Gathered) (fresh : List ByteRecord) → Gathers width rs g → length (rs ++ map fields_of fresh) ≡ g.count + length fresh
-all_size width rs g fresh h =
-    let a = length-append rs (map fields_of fresh) in
-    let b = gathered_size width rs g h in
-    let c = length_lines fresh in
-    omega arith
-
 same_size : (shape : Shape) (rs : List Record) (all : List Held) → map (read_row shape) rs ≡ all → length all ≡ length rs
 same_size shape rs all e = sym (ap length e) ∙ length_rows shape rs
 
@@ -79,7 +66,7 @@ same_text shape header rs all e = ap (λ (l : List Record). csv_text (header ++ 
 is_below : (m n : ℕ) → m ≤ n → nat_le m n ≡ true
 is_below m n le = grind (arith, nat_tests)
 
-is_above : (m n : ℕ) → n < m → nat_le m n ≡ false
+pub is_above : (m n : ℕ) → n < m → nat_le m n ≡ false
 is_above m n lt = grind (arith, nat_tests)
 
 clear : (a b c : Bool) → a ≡ false → b ≡ true → c ≡ true → unless (not a) NotInState (unless b TooLarge (unless c TooLarge [])) ≡ []
@@ -100,13 +87,7 @@ tells_hidden Source test more h = absurd h
 tells_hidden (Refused c) true more (k, lt, e) = absurd (omega arith)
 tells_hidden (Refused c) false more h = Contains-append_left (NotInState ∷ []) more c h
 
--- too many rows, and too many bytes
-pub tells_many : (shape : Shape) (header rs : List Record) (old : List TableRow) (changes : List Change) → map (read_row shape) rs ≡ rows_after (line_of shape.null) old changes
-    → 1000000 < length rs → Contains (causes_behind shape header old changes) TooLarge
-tells_many shape header rs old changes e lt =
-    under (not (list_any (hides_value shape.null) changes)) NotInState TooLarge _
-    (told _ TooLarge _ (ap (λ (n : ℕ). nat_le n 1000000) (same_size shape rs _ e) ∙ is_above (length rs) 1000000 lt))
-
+-- too many bytes, and too many rows
 pub tells_long : (shape : Shape) (header rs : List Record) (old : List TableRow) (changes : List Change) → map (read_row shape) rs ≡ rows_after (line_of shape.null) old changes
     → 67108864 < length (csv_text (header ++ rs)) → Contains (causes_behind shape header old changes) TooLarge
 tells_long shape header rs old changes e lt =
@@ -114,22 +95,35 @@ tells_long shape header rs old changes e lt =
     (under (nat_le (length (rows_after (line_of shape.null) old changes)) 1000000) TooLarge TooLarge _
     (told _ TooLarge [] (ap (λ (b : List ℕ). nat_le (length b) 67108864) (same_text shape header rs _ e) ∙ is_above (length (csv_text (header ++ rs))) 67108864 lt)))
 
+pub tells_rows : (fault : Fault) (a b c : Bool) (more : List Cause) → TellsCause fault (unless b TooLarge []) → b ≡ c
+    → TellsCause fault (unless a NotInState (unless c TooLarge more))
+tells_rows NoMemory a b c more h e = tt
+tells_rows Source a b c more h e = absurd h
+tells_rows (Refused k) a true c more (i, lt, is) e = absurd (omega arith)
+tells_rows (Refused k) a false c more h e =
+    under a NotInState k _ (subst (λ (t : Bool). Contains (unless t TooLarge more) k) e (Contains-append_left (TooLarge ∷ []) more k h))
+
+pub tells_few : (shape : Shape) (header rs : List Record) (old : List TableRow) (changes : List Change) (fault : Fault)
+    → map (read_row shape) rs ≡ rows_after (line_of shape.null) old changes → TellsCause fault (unless (nat_le (length rs) 1000000) TooLarge [])
+    → TellsCause fault (causes_behind shape header old changes)
+tells_few shape header rs old changes fault e told =
+    tells_rows fault (not (list_any (hides_value shape.null) changes)) (nat_le (length rs) 1000000) _ _ told (ap (λ (n : ℕ). nat_le n 1000000) (sym (same_size shape rs _ e)))
+
 -- what a kept write leaves
-pub rewrites : (t : CsvTable) (changes : List Change) (w : Written) (rs : List Record) → map (read_row (shape_is t.layout)) rs ≡ rows_after (line_of (string_bytes t.layout.null)) (rows_in t) changes
-    → records_of w.rows ≡ rs → list_any (hides_value (string_bytes t.layout.null)) changes ≡ false → length rs ≤ 1000000
-    → w.image.items ≡ csv_text (header_in t.header ++ records_of w.rows) → length w.image.items ≤ 67108864
-    → heading t.layout.header (map string_bytes t.layout.names.items) (csv_records w.image.items) ≡ header_in w.header → w.rows.width ≡ length t.layout.kinds.items
-    → Rewrites t changes w
-rewrites t changes w rs e er hides few image small header width =
-    let text : w.image.items ≡ csv_text (header_in t.header ++ rs) = image ∙ ap (λ (l : List Record). csv_text (header_in t.header ++ l)) er in
-    let s = ap length text in
+pub rewrites : (t : CsvTable) (changes : List Change) (header rs : List Record) (image : List ℕ)
+    → map (read_row (shape_is t.layout)) rs ≡ rows_after (line_of (string_bytes t.layout.null)) (rows_in t) changes
+    → list_any (hides_value (string_bytes t.layout.null)) changes ≡ false → length rs ≤ 1000000
+    → image ≡ csv_text (header_in t.header ++ rs) → length image ≤ 67108864
+    → heading t.layout.header (map string_bytes t.layout.names.items) (csv_records image) ≡ header
+    → Rewrites t changes header rs image
+rewrites t changes header rs image e hides few is small heads =
+    let s = ap length is in
     let fits : length (csv_text (header_in t.header ++ rs)) ≤ 67108864 = omega arith in
     record {
-      rows = ap (map (read_row (shape_is t.layout))) er ∙ e;
+      rows = e;
       no_cause = no_write_cause (shape_is t.layout) (header_in t.header) rs (rows_in t) changes e hides few fits;
-      image = image;
-      header = header;
-      width = width;
+      image_is = is;
+      header_is = heads;
     }
 
 pub not_many : (n : ℕ) → nat_lt 1000000 n ≡ false → n ≤ 1000000

@@ -237,3 +237,13 @@ pub wide_rest : (width k : ℕ) (o : Option ByteRecord) (es : Entries) → IsStr
     → ((place : ℕ) → is_wide width (fate_in ((k, o) ∷ es) place) ≡ true) → (place : ℕ) → is_wide width (fate_in es place) ≡ true
 unfolding IsStrictlySortedBy
 wide_rest width k o es sorted wide = behind_wide width k o es (all_behind k es sorted.0) wide
+
+-- the records before the first place that is set stay, and so do those behind the last one
+pub left_around : (es : Entries) (from at : ℕ) (records done : List Record) → Behind from es → from ≤ length records
+    → done ++ left_from [] at (drop at records) ≡ left_from es from (drop from records) → take from records ++ done ++ drop at records ≡ left_from es 0 records
+left_around es from at records done all le e =
+    let zero_on : 0 + from ≡ from = omega arith in
+    let last : left_from [] at (drop at records) ≡ drop at records = all_stay [] at (drop at records) tt in
+    append_assoc (take from records) done (drop at records)
+    ∙ ap (λ (l : List Record). take from records ++ l) (ap (λ (l : List Record). done ++ l) (sym last) ∙ e)
+    ∙ sym (stays es 0 from records (closer from (0 + from) es (omega arith) all) le ∙ ap (λ (n : ℕ). take from records ++ left_from es n (drop from records)) zero_on)

@@ -1,22 +1,21 @@
 -- Records that are put together, and what a write leaves of records.
-use Rattle.std.proofs.Common.{◌≡◌, ℕ, ◌+◌, ◌*◌, ◌-◌, ◌≤◌, Bool, true, false, ◌&&◌, nat_eq, List, [], ◌∷◌, ◌++◌, length, map, flat_map, replicate, take, drop, Result, refl, ap, sym, ◌∙◌, subst, arith}
+use Rattle.std.proofs.Common.{◌≡◌, ℕ, ◌+◌, ◌*◌, ◌-◌, ◌≤◌, Bool, true, false, ◌&&◌, nat_eq, List, [], ◌∷◌, ◌++◌, length, map, flat_map, replicate, take, drop, refl, ap, sym, ◌∙◌, subst, arith}
 use Rattle.std.specs.List.{list_all}
-use Rattle.std.specs.Result.{IfOk}
 use Rattle.std.specs.Str.{is_utf8}
 use Rattle.std.proofs.lemmas.Bool.Decides.{nat_tests}
-use Rattle.std.proofs.lemmas.List.{length-append, length-drop, length-take-le, length_push, append_assoc}
+use Rattle.std.proofs.lemmas.List.{length-append, length-drop, length-take-le, length_push, append_assoc, take_all, drop_all}
 use Rattle.csv.specs.Records.{Row, fields_of, partial_of}
 use Rattle.csv.specs.declared.record.ByteRecord.{ByteRecord}
 use Rattle.med_value.specs.Datum.{Tuple}
 use Rattle.fdw_api.specs.Prelude.{Held, held, Change, row_after}
 use Rattle.wrapper_parts.specs.declared.fates.Fate.TheVariants.{Keep}
-use Rattle.csv_tables.specs.declared.written.Gathered.{Gathered}
+use Rattle.csv_tables.specs.declared.middle.Gathered.{Gathered}
 use Rattle.csv_tables.specs.Cells.{line_of}
 use Rattle.csv_tables.specs.CsvRecords.{Record, is_whole}
 use Rattle.csv_tables.specs.Shapes.{Shape, read_row}
 use Rattle.csv_tables.specs.declared.table.Rows.{Rows}
 use Rattle.csv_tables.specs.Tables.{numbered, records_of}
-use Rattle.csv_tables.specs.Rewriting.{Gathers}
+use Rattle.csv_tables.specs.Rewriting.{Gathers, Replaces}
 use Rattle.wrapper_parts.proofs.Weaves.{left_from}
 use Rattle.csv_tables.proofs.Flat.{cut_length}
 use Rattle.csv_tables.proofs.Holding.{ended_more, ended_both, whole_both, whole_take, whole_drop, rows_whole, rows_range}
@@ -79,9 +78,6 @@ gathers_range r rows g h from to was order within ef ep ec plain =
 pub gathers_as : (width : ℕ) (xs ys : List Record) (g : Gathered) → Gathers width xs g → xs ≡ ys → Gathers width ys g
 gathers_as width xs ys g h e = subst (λ (l : List Record). Gathers width l g) e h
 
-pub gathers_all : {E : Type 0} (width : ℕ) (xs ys : List Record) (g : Result Gathered E) → IfOk g (λ g. Gathers width xs g) → xs ≡ ys → IfOk g (λ g. Gathers width ys g)
-gathers_all width xs ys g h e = subst (λ (l : List Record). IfOk g (λ g. Gathers width l g)) e h
-
 -- the new records, one after the other
 pub lines_first : (width : ℕ) (x : ByteRecord) (xs ys : List ByteRecord) → xs ≡ x ∷ ys → list_all (is_whole width) (map fields_of xs) ≡ true
     → (is_whole width (fields_of x) ≡ true) × (list_all (is_whole width) (map fields_of ys) ≡ true)
@@ -107,3 +103,45 @@ WritesRow shape r x = read_row shape (fields_of r) ≡ record { cells = x; origi
 pub no_lines : (l : List ByteRecord) → length l ≡ 0 → l ≡ []
 no_lines [] e = refl
 no_lines (x ∷ l) e = absurd (omega arith)
+
+-- records in the place of a range, and no new ones behind them
+pub replaces_none : (r : Rows) (all : List Record) (from to : ℕ) (g : Gathered) (fresh : List ByteRecord) → Replaces r all from to g → fresh ≡ []
+    → Replaces r (all ++ map fields_of fresh) from to g
+replaces_none r all from to g fresh h e = record {
+  middle = h.middle;
+  gathers = h.gathers;
+  all_is = h.all_is ∙ sym (append_none all) ∙ ap (λ (l : List ByteRecord). all ++ map fields_of l) (sym e);
+}
+
+-- and new ones behind the last record of the table
+pub replaces_fresh : (r : Rows) (all : List Record) (from to : ℕ) (old g : Gathered) (fresh : List Record) → to ≤ r.count → Replaces r all from to old
+    → ((middle : List Record) → Gathers r.width middle old → Gathers r.width (middle ++ take (r.count - to) (drop to (records_of r)) ++ fresh) g)
+    → Replaces r (all ++ fresh) from r.count g
+replaces_fresh r all from to old g fresh le h more =
+    let rs = records_of r in
+    let n = cut_length r.count r.width (held_of r.fields) in
+    let d = length-drop to rs in
+    let rest : take (r.count - to) (drop to rs) ≡ drop to rs = take_all (r.count - to) (drop to rs) (omega arith) in
+    let last : drop r.count rs ≡ [] = drop_all r.count rs (omega arith) in
+    record {
+      middle = h.middle ++ take (r.count - to) (drop to rs) ++ fresh;
+      gathers = more h.middle h.gathers;
+      all_is = ap (λ (l : List Record). take from rs ++ (h.middle ++ take (r.count - to) (drop to rs) ++ fresh) ++ l) last
+          ∙ append_none (take from rs ++ (h.middle ++ take (r.count - to) (drop to rs) ++ fresh))
+          ∙ ap (λ (l : List Record). take from rs ++ (h.middle ++ l ++ fresh)) rest
+          ∙ sym (append_assoc (take from rs) (h.middle ++ drop to rs) fresh)
+          ∙ ap (λ (l : List Record). l ++ fresh) (sym (append_assoc (take from rs) h.middle (drop to rs)) ∙ h.all_is);
+    }
+
+-- how many records there are with them
+pub replaces_count : (r : Rows) (all : List Record) (from to : ℕ) (g : Gathered) → from ≤ r.count → Replaces r all from to g → length all ≡ from + g.count + (r.count - to)
+replaces_count r all from to g le h =
+    let rs = records_of r in
+    let n = cut_length r.count r.width (held_of r.fields) in
+    let t = length-take-le from rs (omega arith) in
+    let d = length-drop to rs in
+    let a = length-append (take from rs ++ h.middle) (drop to rs) in
+    let b = length-append (take from rs) h.middle in
+    let c = h.gathers.count_is in
+    let e = ap length h.all_is in
+    omega arith

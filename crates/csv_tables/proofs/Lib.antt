@@ -4,6 +4,7 @@ pub mod Fields
 pub mod Flat
 pub mod Holding
 pub mod Moving
+pub mod Exchanging
 pub mod Shown
 pub mod RowCells
 pub mod ReadLaws
@@ -16,6 +17,9 @@ pub mod Sorting
 pub mod Writing
 pub mod Applying
 pub mod Again
+pub mod Heads
+pub mod RowDrafts
+pub mod Planning
 pub mod Images
 pub mod Headers
 pub mod Placing

@@ -65,7 +65,7 @@ cut_past s [] bytes (suc n) le = absurd (omega arith)
 cut_past s (e ∷ es) bytes zero le = refl
 cut_past s (e ∷ es) bytes (suc n) le = cut_past e es bytes n (omega arith)
 
-cut_first : (s : ℕ) (ends bytes : List ℕ) (n : ℕ) → take n (cut_from s ends bytes) ≡ cut_from s (take n ends) bytes
+pub cut_first : (s : ℕ) (ends bytes : List ℕ) (n : ℕ) → take n (cut_from s ends bytes) ≡ cut_from s (take n ends) bytes
 unfolding cut_from
 cut_first s ends bytes zero = refl
 cut_first s [] bytes (suc n) = refl
@@ -112,7 +112,7 @@ prev_past s (e ∷ es) (suc n) k le =
     let p : suc (n + k) ≡ suc n + k = omega arith in
     prev_past e es n k (omega arith) ∙ ap (prev s (e ∷ es)) p
 
-rising_past : (s : ℕ) (ends : List ℕ) (size n : ℕ) → Rising s ends size → n ≤ length ends → Rising (prev s ends n) (drop n ends) size
+pub rising_past : (s : ℕ) (ends : List ℕ) (size n : ℕ) → Rising s ends size → n ≤ length ends → Rising (prev s ends n) (drop n ends) size
 unfolding prev Rising
 rising_past s [] size zero h le = h
 rising_past s [] size (suc n) h le = absurd (omega arith)
@@ -129,7 +129,7 @@ text_range ends bytes from to h order within =
     ∙ ap (λ (k : ℕ). take (k - prev 0 ends from) (drop (prev 0 ends from) bytes)) (prev_past 0 ends from (to - from) (omega arith) ∙ ap (prev 0 ends) t)
 
 -- a range of fields keeps what it is where its text stands behind another
-rising_first : (s : ℕ) (ends : List ℕ) (size n : ℕ) → Rising s ends size → n ≤ length ends → Rising s (take n ends) (prev s ends n)
+pub rising_first : (s : ℕ) (ends : List ℕ) (size n : ℕ) → Rising s ends size → n ≤ length ends → Rising s (take n ends) (prev s ends n)
 unfolding prev Rising
 rising_first s ends size zero h le = start s ends
   where
@@ -163,7 +163,7 @@ cut_moved from size to s (end ∷ ends) before bytes e low h =
     ∙ ap (λ (f : List ℕ). f ∷ cut_from (moved from to end) (map (moved from to) ends) (before ++ take size (drop from bytes))) here
     ∙ ap (λ (fs : List (List ℕ)). take (end - s) (drop s bytes) ∷ fs) (cut_moved from size to end ends before bytes e (omega arith) h.1)
 
-rising_moved : (from to s size : ℕ) (ends : List ℕ) → from ≤ s → Rising s ends size → Rising (moved from to s) (map (moved from to) ends) (moved from to size)
+pub rising_moved : (from to s size : ℕ) (ends : List ℕ) → from ≤ s → Rising s ends size → Rising (moved from to s) (map (moved from to) ends) (moved from to size)
 unfolding Rising
 rising_moved from to s size [] low h = omega arith
 rising_moved from to s size (end ∷ ends) low h = let l = h.0 in (omega arith, rising_moved from to end size ends (omega arith) h.1)
@@ -188,7 +188,7 @@ unfolding last_end
 last_moved from to s [] = refl
 last_moved from to s (end ∷ ends) = last_moved from to end ends
 
-last_first : (s : ℕ) (ends : List ℕ) (n : ℕ) → n ≤ length ends → last_end s (take n ends) ≡ prev s ends n
+pub last_first : (s : ℕ) (ends : List ℕ) (n : ℕ) → n ≤ length ends → last_end s (take n ends) ≡ prev s ends n
 unfolding prev last_end
 last_first s [] zero le = refl
 last_first s [] (suc n) le = absurd (omega arith)
@@ -204,7 +204,7 @@ closed ends bytes h none =
     omega arith
 
 -- the range of fields from a place up to another, behind others
-range_rising : (ends : List ℕ) (size from to : ℕ) → Rising 0 ends size → from ≤ to → to ≤ length ends → Rising (prev 0 ends from) (take (to - from) (drop from ends)) (prev 0 ends to)
+pub range_rising : (ends : List ℕ) (size from to : ℕ) → Rising 0 ends size → from ≤ to → to ≤ length ends → Rising (prev 0 ends from) (take (to - from) (drop from ends)) (prev 0 ends to)
 range_rising ends size from to h order within =
     let d = length-drop from ends in
     let t : from + (to - from) ≡ to = omega arith in
@@ -227,7 +227,7 @@ range_stays ends size from to h order within =
 abbrev pub range_text : List ℕ → List ℕ → ℕ → ℕ → List ℕ
 range_text ends bytes from to = take (prev 0 ends to - prev 0 ends from) (drop (prev 0 ends from) bytes)
 
-range_size : (ends bytes : List ℕ) (from to : ℕ) → Rising 0 ends (length bytes) → from ≤ to → length (range_text ends bytes from to) ≡ prev 0 ends to - prev 0 ends from
+pub range_size : (ends bytes : List ℕ) (from to : ℕ) → Rising 0 ends (length bytes) → from ≤ to → length (range_text ends bytes from to) ≡ prev 0 ends to - prev 0 ends from
 range_size ends bytes from to h order =
     let a = prev_order 0 ends (length bytes) from to h order in
     let b = (prev_within 0 ends (length bytes) to h).1 in

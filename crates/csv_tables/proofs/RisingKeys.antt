@@ -1,5 +1,5 @@
 -- First columns that rise, record by record and change by change.
-use Rattle.std.proofs.Common.{◌≡◌, ◌≤◌, ◌<◌, ◌+◌, ◌≤ℤ◌, ℕ, ℤ, zero, suc, Bool, true, false, nat_eq, if◌then◌else◌, List, [], ◌∷◌, ◌++◌, length, map, flat_map, drop, Option, Some, None, string_bytes, refl, ap, sym, ◌∙◌, subst, FitsSigned, w64, arith, below_more}
+use Rattle.std.proofs.Common.{◌≡◌, ◌≤◌, ◌<◌, ◌+◌, ◌≤ℤ◌, ℕ, ℤ, zero, suc, Bool, true, false, nat_eq, if◌then◌else◌, List, [], ◌∷◌, ◌++◌, length, map, flat_map, drop, string_bytes, refl, ap, sym, ◌∙◌, subst, FitsSigned, w64, arith, below_more}
 use Rattle.std.proofs.lemmas.Int.{ints}
 use Rattle.std.proofs.lemmas.Bool.Decides.{nat_tests}
 use Rattle.std.proofs.lemmas.List.{map-append}
@@ -9,7 +9,6 @@ use Rattle.wrapper_parts.specs.Rising.{AreInOrder, AreRising}
 use Rattle.wrapper_parts.specs.Scans.{column_cells}
 use Rattle.csv_tables.specs.declared.layout.Layout.{Layout}
 use Rattle.csv_tables.specs.declared.table.CsvTable.{CsvTable}
-use Rattle.csv_tables.specs.declared.written.Written.{Written}
 use Rattle.csv_tables.specs.Cells.{line_of, record_cells}
 use Rattle.csv_tables.specs.CsvRecords.{Record}
 use Rattle.csv_tables.specs.Held.{held_of}
@@ -269,9 +268,8 @@ insert_on cells low key x fits is le cs keep = (
 )
 
 -- what is read again after a write rises, where the rows after its changes do
-pub after_rises : (t : CsvTable) (l : Layout) (w : Written) (cs : List Change) → shape_is l ≡ shape_is t.layout → Rewrites t cs w
-    → AreRising (first_cells (rows_after (line_of (string_bytes t.layout.null)) (rows_in t) cs)) → AreRising (column_cells 0 (numbered (shape_is l) 0 (records_of w.rows)))
-after_rises t l w cs same did rising =
-    let rs = records_of w.rows in
+pub after_rises : (t : CsvTable) (l : Layout) (header rs : List Record) (image : List ℕ) (cs : List Change) → shape_is l ≡ shape_is t.layout → Rewrites t cs header rs image
+    → AreRising (first_cells (rows_after (line_of (string_bytes t.layout.null)) (rows_in t) cs)) → AreRising (column_cells 0 (numbered (shape_is l) 0 rs))
+after_rises t l header rs image cs same did rising =
     let is = first_numbered (shape_is l) 0 rs ∙ ap (λ (s : Shape). first_cells (map (read_row s) rs)) same ∙ ap first_cells did.rows in
     subst (λ (ds : List Datum). AreRising ds) (sym is) rising

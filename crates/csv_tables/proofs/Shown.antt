@@ -6,10 +6,8 @@ use Rattle.std.proofs.lemmas.List.{append-nil, append_assoc, take_more}
 use Rattle.csv.specs.Writing.{default_writer, needs_byte, needs_quotes, field_text, fields_text, is_blank, row_body, row_text}
 use Rattle.csv_tables.specs.CsvRecords.{Record, csv_text, is_whole}
 use Rattle.csv_tables.specs.Held.{ended, is_plain, plain_if, special, special_in, held_of}
-use Rattle.csv_tables.specs.declared.table.Rows.{Rows}
 use Rattle.csv.specs.Records.{Row, cut_from, fields_of, text_of}
 use native.Mathlib.Nat.{suc-mul}
-use Rattle.csv_tables.specs.Tables.{records_of}
 use Rattle.csv_tables.proofs.Holding.{width_is, holds_rows}
 use Rattle.csv_tables.proofs.FieldSteps.{both}
 
@@ -161,7 +159,7 @@ plain_drop (suc n) [] h = refl
 plain_drop (suc n) (r ∷ rs) h = plain_drop n rs (both (is_plain r) (list_all is_plain rs) h).1
 
 -- records that stand so one after the other
-lines_flat : (rows : List Record) → flat_map (λ f. f) (flat_map ended rows) ≡ flat_map line_text rows
+pub lines_flat : (rows : List Record) → flat_map (λ f. f) (flat_map ended rows) ≡ flat_map line_text rows
 lines_flat [] = refl
 lines_flat (r ∷ rows) = flat_both (ended r) (flat_map ended rows) ∙ ap (λ (l : List ℕ). line_text r ++ l) (lines_flat rows)
   where
@@ -211,11 +209,8 @@ plain_rows w fields rows lt whole lines count size is all counted =
     same m n e = grind (arith, nat_tests)
 
 -- the text of plain records is what the writer writes
-text_shown : (rows : List Record) → list_all is_plain rows ≡ true → csv_text rows ≡ flat_map line_text rows
+pub text_shown : (rows : List Record) → list_all is_plain rows ≡ true → csv_text rows ≡ flat_map line_text rows
 text_shown [] h = refl
 text_shown (r ∷ rows) h =
     let b = both (is_plain r) (list_all is_plain rows) h in
     ap (λ (x : List ℕ). x ++ csv_text rows) (plain_line r b.0) ∙ ap (λ (x : List ℕ). line_text r ++ x) (text_shown rows b.1)
-
-pub rows_shown : (r : Rows) → r.plain ≡ true → csv_text (records_of r) ≡ flat_map (λ f. f) (fields_of r.fields)
-rows_shown r e = text_shown (records_of r) (plain_known r.plain (records_of r) r.shown e) ∙ sym (ap (flat_map (λ f. f)) r.lines ∙ lines_flat (records_of r))

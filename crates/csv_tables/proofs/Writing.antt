@@ -1,21 +1,17 @@
 -- A writer of records, line by line.
-use Rattle.std.proofs.Common.{◌≡◌, ℕ, ◌+◌, ◌<◌, ◌≤◌, zero, suc, List, [], ◌∷◌, ◌++◌, length, take, drop, Option, Some, Vec, Global, refl, ap, sym, ◌∙◌, arith}
+use Rattle.std.proofs.Common.{◌≡◌, ℕ, zero, suc, List, [], ◌∷◌, ◌++◌, take, drop, Option, Some, Vec, Global, refl, ap, sym, ◌∙◌}
 use Rattle.std.specs.Io.KnownBytes.{Keeps}
-use Rattle.std.proofs.lemmas.List.{append_assoc, take_all}
+use Rattle.std.proofs.lemmas.List.{append_assoc}
 use Rattle.csv.specs.Writing.{default_writer, row_text, text_written}
 use Rattle.csv.specs.declared.writer.Writer.{Writer}
-use Rattle.csv_tables.specs.declared.table.Rows.{Rows}
 use Rattle.csv_tables.specs.CsvRecords.{Record, csv_text}
-use Rattle.csv_tables.specs.Tables.{record_at, records_of}
 use Rattle.csv_tables.specs.Rewriting.{HasWritten}
-use Rattle.csv_tables.proofs.Flat.{cut_drop, cut_length}
-use Rattle.csv_tables.specs.Held.{held_of}
 
 pub writes_as : (xs ys : List ℕ) (w : Writer (Vec ℕ Global)) → HasWritten xs w → xs ≡ ys → HasWritten ys w
 writes_as xs ys w h e = rw e at h
 
 -- one record more
-take_row : (rs : List Record) (at : ℕ) (r : Record) (more : List Record) → drop at rs ≡ r ∷ more → take (suc at) rs ≡ take at rs ++ r ∷ []
+pub take_row : (rs : List Record) (at : ℕ) (r : Record) (more : List Record) → drop at rs ≡ r ∷ more → take (suc at) rs ≡ take at rs ++ r ∷ []
 take_row [] zero r more e = absurd cc
 take_row [] (suc at) r more e = absurd cc
 take_row (x ∷ rs) zero r more e = let s : x ≡ r = cc in ap (λ (y : Record). y ∷ []) s
@@ -25,30 +21,9 @@ none_behind : (l : List ℕ) → l ++ [] ≡ l
 none_behind [] = refl
 none_behind (x ∷ l) = ap (λ (m : List ℕ). x ∷ m) (none_behind l)
 
-text_push : (rs : List Record) (r : Record) → csv_text (rs ++ r ∷ []) ≡ csv_text rs ++ row_text default_writer r
+pub text_push : (rs : List Record) (r : Record) → csv_text (rs ++ r ∷ []) ≡ csv_text rs ++ row_text default_writer r
 text_push [] r = none_behind (row_text default_writer r)
 text_push (x ∷ rs) r = ap (λ (l : List ℕ). row_text default_writer x ++ l) (text_push rs r) ∙ sym (append_assoc (row_text default_writer x) (csv_text rs) (row_text default_writer r))
-
-rows_joined : (xs ys : List Record) (r : Record) → xs ++ (ys ++ r ∷ []) ≡ (xs ++ ys) ++ r ∷ []
-rows_joined [] ys r = refl
-rows_joined (x ∷ xs) ys r = ap (λ (l : List Record). x ∷ l) (rows_joined xs ys r)
-
-pub text_next : (header : List Record) (rows : Rows) (at : ℕ) (r : Record) → at < rows.count → r ≡ record_at rows at
-    → csv_text (header ++ take at (records_of rows)) ++ row_text default_writer r ≡ csv_text (header ++ take (at + 1) (records_of rows))
-text_next header rows at r lt e =
-    let next = cut_drop at rows.count rows.width (held_of rows.fields) lt in
-    let p : at + 1 ≡ suc at = omega arith in
-    let t : take (at + 1) (records_of rows) ≡ take at (records_of rows) ++ record_at rows at ∷ [] = ap (λ (k : ℕ). take k (records_of rows)) p ∙ take_row (records_of rows) at _ _ next in
-    ap (λ (x : Record). csv_text (header ++ take at (records_of rows)) ++ row_text default_writer x) e
-    ∙ sym (text_push (header ++ take at (records_of rows)) (record_at rows at))
-    ∙ ap csv_text (sym (rows_joined header (take at (records_of rows)) (record_at rows at)))
-    ∙ ap (λ (l : List Record). csv_text (header ++ l)) (sym t)
-
-pub text_whole : (header : List Record) (rows : Rows) (at : ℕ) → rows.count ≤ at → csv_text (header ++ take at (records_of rows)) ≡ csv_text (header ++ records_of rows)
-text_whole header rows at le =
-    let n = cut_length rows.count rows.width (held_of rows.fields) in
-    let few : length (records_of rows) ≤ at = omega arith in
-    ap (λ (l : List Record). csv_text (header ++ l)) (take_all at (records_of rows) few)
 
 -- what a writer gives back
 kept_text : (o : Option (List ℕ)) (text image : List ℕ) → o ≡ Some text → Keeps o (Some image) → image ≡ text

@@ -1,5 +1,5 @@
 -- Fields that are held in one text as they stand in a blob: each with one byte behind it, which ends it.
-use Rattle.std.specs.Prelude.{◌||◌, ◌+◌, ◌-◌, ℕ, Bool, not, ◌&&◌, if◌then◌else◌, List, [], ◌∷◌, ◌++◌, length, map, take, nat_lt}
+use Rattle.std.specs.Prelude.{◌<◌, ◌≤◌, ◌^◌, EachIndex, slice_index, ◌||◌, ◌+◌, ◌-◌, ℕ, Bool, not, ◌&&◌, if◌then◌else◌, List, [], ◌∷◌, ◌++◌, length, map, take, nat_lt}
 use Rattle.std.specs.List.{list_all, list_any}
 use Rattle.csv.specs.Machine.{line_feed}
 use Rattle.csv.specs.Records.{Row, fields_of}
@@ -43,3 +43,7 @@ plain_if said rows = not said || list_all is_plain rows
 -- a place that is counted from `from`, counted from `to`
 abbrev pub moved : ℕ → ℕ → ℕ → ℕ
 moved from to place = (place - from) + to
+
+-- places from one on, which as places from another fit 32 bits
+abbrev pub CanMove : ℕ → ℕ → List ℕ → Type 0
+CanMove from to places = EachIndex places (λ k. (from ≤ slice_index places k) × (moved from to (slice_index places k) < 2 ^ 32))

@@ -2,10 +2,12 @@ pub mod Cells
 pub mod CsvRecords
 pub mod Shapes
 pub mod Held
+pub mod Exchange
 pub mod Flat
 pub mod Tables
 pub mod Content
 pub mod Rewriting
+pub mod Drafted
 pub mod ReadAgain
 pub mod Scans
 pub mod Rises

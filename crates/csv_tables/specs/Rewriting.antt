@@ -1,5 +1,5 @@
 -- What the staged changes of a write make of the records of a table.
-use Rattle.std.specs.Prelude.{◌≡◌, ℕ, ℤ, pos, negsuc, ◌^◌, Bool, true, false, List, [], ◌++◌, length, map, nat_lt, Option, Some, None, Vec}
+use Rattle.std.specs.Prelude.{◌≡◌, ℕ, ℤ, pos, negsuc, ◌^◌, Bool, true, false, List, [], ◌++◌, length, map, take, drop, if◌then◌else◌, nat_lt, Option, Some, None, Vec}
 use Rattle.std.specs.Global.{Global}
 use Rattle.std.specs.String.{string_bytes}
 use Rattle.std.specs.List.{list_all, flat_map, range_with_len}
@@ -12,12 +12,14 @@ use Rattle.csv.specs.declared.writer.Writer.{Writer}
 use Rattle.csv.specs.declared.record.ByteRecord.{ByteRecord}
 use Rattle.med_value.specs.Datum.{Datum, NoValue, Whole, Chars, Logic}
 use Rattle.fdw_api.specs.Prelude.{TableRow, Held, Change, rows_after}
+use Rattle.csv_tables.specs.declared.table.Rows.{Rows}
 use Rattle.csv_tables.specs.declared.table.CsvTable.{CsvTable}
 use Rattle.wrapper_parts.specs.declared.fates.Fate.{Fate}
 use Rattle.wrapper_parts.specs.declared.fates.Fate.TheVariants.{Keep, Change as ChangeTo, Gone}
 use Rattle.wrapper_parts.specs.Weaving as weaving
-use Rattle.csv_tables.specs.declared.written.Gathered.{Gathered}
-use Rattle.csv_tables.specs.declared.written.Written.{Written}
+use Rattle.csv_tables.specs.declared.middle.Sorted.{Sorted}
+use Rattle.csv_tables.specs.declared.middle.Gathered.{Gathered}
+use Rattle.csv_tables.specs.declared.middle.Middle.{Middle}
 use Rattle.csv_tables.specs.Cells.{line_of}
 use Rattle.csv_tables.specs.CsvRecords.{Record, csv_records, csv_text, heading, is_whole}
 use Rattle.csv_tables.specs.Shapes.{Shape, read_row, causes_behind}
@@ -84,11 +86,32 @@ pub record HasWritten (text : List ℕ) (w : Writer (Vec ℕ Global)) : Type 0 w
 abbrev pub rows_in : CsvTable → List TableRow
 rows_in t = numbered (shape_is t.layout) 0 (records_of t.rows)
 
+-- the records that are left, and the new ones
+abbrev pub all_left : Rows → Sorted → List Record
+all_left r s = left_by (fates_of s.changed r.count) (records_of r) ++ map fields_of s.fresh.items
+
+-- these are the records that were put together in the place of a range, with those in front of it and behind it
+pub record Replaces (r : Rows) (all : List Record) (from to : ℕ) (g : Gathered) : Type 0 where
+  pub middle : List Record
+  pub gathers : Gathers r.width middle g
+  pub all_is : take from (records_of r) ++ middle ++ drop to (records_of r) ≡ all
+
+-- the records of a table with others in the place of a range
+abbrev pub records_with : Rows → Middle → List Record
+records_with r m = take m.from (records_of r) ++ records_of m.rows ++ drop m.to (records_of r)
+
+-- an image by its beginning: it is all of it, or this text stands behind it
+abbrev pub image_by : Bool → List ℕ → List ℕ → List ℕ
+image_by in_pieces head text = if in_pieces then head ++ text else head
+
+-- the text of records as they stand in a table
+abbrev pub held_text : List Record → List ℕ
+held_text rows = flat_map (λ field. field) (flat_map ended rows)
+
 -- what a kept write leaves, for whose changes no cause stands: the rows after the changes, and the blob in which they stand behind the
 -- header that the table holds
-pub record Rewrites (t : CsvTable) (changes : List Change) (w : Written) : Type 0 where
-  pub rows : map (read_row (shape_is t.layout)) (records_of w.rows) ≡ rows_after (line_of (string_bytes t.layout.null)) (rows_in t) changes
+pub record Rewrites (t : CsvTable) (changes : List Change) (header records : List Record) (image : List ℕ) : Type 0 where
+  pub rows : map (read_row (shape_is t.layout)) records ≡ rows_after (line_of (string_bytes t.layout.null)) (rows_in t) changes
   pub no_cause : causes_behind (shape_is t.layout) (header_in t.header) (rows_in t) changes ≡ []
-  pub image : w.image.items ≡ csv_text (header_in t.header ++ records_of w.rows)
-  pub header : heading t.layout.header (map string_bytes t.layout.names.items) (csv_records w.image.items) ≡ header_in w.header
-  pub width : w.rows.width ≡ length t.layout.kinds.items
+  pub image_is : image ≡ csv_text (header_in t.header ++ records)
+  pub header_is : heading t.layout.header (map string_bytes t.layout.names.items) (csv_records image) ≡ header

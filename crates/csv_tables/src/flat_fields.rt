@@ -1,11 +1,12 @@
 //! The fields of many records as one text, in which they stand as in a blob: each with a byte behind it that ends it.
-ghost use Rattle.std.specs.Prelude.{◌≡◌, ◌<◌, ◌≤◌, ◌+◌, ◌-◌, ◌^◌, ◌++◌, ◌∷◌, [], get_or, take, drop, length, map, option_map, OnOk, IfOk, IfSome};
+ghost use Rattle.std.specs.Prelude.{◌≡◌, ◌<◌, ◌≤◌, ◌+◌, ◌-◌, ◌^◌, ◌++◌, ◌∷◌, [], get_or, take, drop, length, map, option_map, OnOk, IfOk, IfErr, IfSome};
 ghost use Rattle.std.specs.List.{flat_map};
 ghost use Rattle.csv.specs.Records.{field_at, field_count, fields_of, partial_of, prev};
-ghost use Rattle.csv_tables.specs.Held.{held_of, moved};
+ghost use Rattle.csv_tables.specs.Held.{CanMove, held_of, moved};
 
 use std::alloc::{AllocError, Global};
 use std::marker::Model;
+use wrapper_parts::Splice;
 
 /// Fields one after the other: the bytes of all of them in one text, each with one byte behind it, and where in it each ends, that byte
 /// included.
@@ -32,48 +33,39 @@ fn bounds(ends: &Vec<u32>, at: usize) -> (usize, usize)
     ensures start { result.0 ≡ prev 0 ends.now.items at }
     ensures last { result.1 ≡ prev 0 ends.now.items at + ((get_or ends.now.items at 0 - prev 0 ends.now.items at) - 1) }
 {
-    let start = start_of(ends, at);
+    let start = start_of(ends, at) as usize;
     let end = ends[at] as usize;
     (start, if start < end { end - 1 } else { start })
 }
 
 /// Where the field at a place begins, or the text ends.
-fn start_of(ends: &Vec<u32>, at: usize) -> usize
+fn start_of(ends: &Vec<u32>, at: usize) -> u32
     requires { at ≤ length ends.now.items }
     ensures { result ≡ prev 0 ends.now.items at }
 {
-    let start = if at == 0 { 0 } else { ends[at - 1] };
-    start as usize
+    if at == 0 { 0 } else { ends[at - 1] }
 }
 
-/// Appends places, which are counted from one place, as they are counted from another.
-fn push_moved(ends: &mut Vec<u32>, places: &[u32], from: usize, to: usize) -> Result<(), AllocError>
-    ensures { OnOk result (ends.new.items ≡ ends.old.items ++ map (moved from to) places.now) }
-{
-    for place in places {
-        let end = (*place as usize).saturating_sub(from).saturating_add(to);
-        if end > 4_294_967_295 {
-            return Err(AllocError);
-        }
-        ends.push(end as u32)?;
-    }
-    Ok(())
-}
-
-/// Appends places, which are counted from one place, as they are counted from another. They are copied at once where that is the same one.
-fn push_places(
-    ends: &mut Vec<u32>,
-    places: &[u32],
-    from: usize,
-    to: usize,
-) -> Result<(), AllocError>
-    requires { map (moved from from) places.now ≡ places.now }
-    ensures { OnOk result (ends.new.items ≡ ends.old.items ++ map (moved from to) places.now) }
+/// Counts places from another one than before.
+fn move_places(places: &mut [u32], from: u32, to: u32)
+    requires { CanMove from to places.old }
+    ensures { places.new ≡ map (moved from to) places.old }
 {
     if from == to {
-        return ends.extend_from_slice(places);
+        return;
     }
-    push_moved(ends, places, from, to)
+    for place in places.iter_mut() {
+        *place = *place - from + to;
+    }
+}
+
+/// Counts the places from an index on from another one than before.
+fn move_behind(ends: &mut Vec<u32>, first: usize, from: u32, to: u32)
+    requires within { first ≤ length ends.old.items }
+    requires can_move { CanMove from to (drop first ends.old.items) }
+    ensures { ends.new.items ≡ take first ends.old.items ++ map (moved from to) (drop first ends.old.items) }
+{
+    move_places(ends.slice_mut(first..), from, to);
 }
 
 impl Fields {
@@ -124,8 +116,8 @@ impl Fields {
         requires within { to ≤ length (held_of self.now) }
         ensures { result.now ≡ flat_map (λ field. field) (take (to - from) (drop from (fields_of self.now))) }
     {
-        let start = start_of(&self.ends, from);
-        let end = start_of(&self.ends, to);
+        let start = start_of(&self.ends, from) as usize;
+        let end = start_of(&self.ends, to) as usize;
         &self.bytes.as_slice()[start..end]
     }
 
@@ -172,8 +164,130 @@ impl Fields {
             mut ends,
         } = self;
         let base = bytes.len();
+        if base.saturating_add(added.len()) > 4_294_967_295 {
+            return Err(AllocError);
+        }
+        let first = ends.len();
         bytes.extend_from_slice(added)?;
-        push_places(&mut ends, &others.ends.as_slice()[from..to], start, base)?;
+        ends.extend_from_slice(&others.ends.as_slice()[from..to])?;
+        move_behind(&mut ends, first, start, base as u32);
         Ok(Fields { bytes, ends })
+    }
+}
+
+/// Fields, of which those from a place up to another are to be replaced by others: all that can fail is done. Kept they are the fields with
+/// the others in the range's place, given up they are as they were.
+#[derive(Drop)]
+pub struct Replacing {
+    bytes: Splice<u8>,
+    /// Those behind the range are counted as they were.
+    ends: Splice<u32>,
+    /// Where the range ended in the text, and where what stands in its place ends.
+    old: u32,
+    new: u32,
+}
+
+impl Model for Replacing {
+    ghost use Rattle.std.specs.Prelude.{map, ◌++◌};
+    ghost use Rattle.wrapper_parts.specs.Splices.{before_of, after_of, front_of, middle_of, back_of};
+    ghost use Rattle.csv_tables.specs.Held.{moved};
+    ghost use Rattle.csv_tables.specs.Exchange.{Exchange, IsExchange};
+
+    ghost Value = { Exchange };
+
+    ghost view = { λ a. record {
+      before = record { bytes = before_of a.bytes; ends = before_of a.ends };
+      after = record {
+        bytes = after_of a.bytes;
+        ends = front_of a.ends ++ middle_of a.ends ++ map (moved a.old a.new) (back_of a.ends);
+      };
+    } };
+
+    ghost invariant = { λ a. IsExchange (record {
+      before = record { bytes = before_of a.bytes; ends = before_of a.ends };
+      after = record {
+        bytes = after_of a.bytes;
+        ends = front_of a.ends ++ middle_of a.ends ++ map (moved a.old a.new) (back_of a.ends);
+      };
+    }) a.old a.new (back_of a.ends) };
+}
+
+impl Replacing {
+    /// Fields, of which those from a place up to another are to be replaced by others. It fails for want of memory, and for more than
+    /// 2^32 - 1 bytes, and then the fields come back.
+    pub fn new(fields: Fields, from: usize, to: usize, others: Fields) -> Result<Replacing, Fields>
+        requires order { from ≤ to }
+        requires within { to ≤ length (held_of fields) }
+        requires whole { partial_of fields ≡ [] }
+        requires others { partial_of others ≡ [] }
+        ensures before { IfOk result (λ r. r.before ≡ fields) }
+        ensures after { IfOk result (λ r. fields_of r.after ≡ take from (fields_of fields) ++ fields_of others ++ drop to (fields_of fields)) }
+        ensures whole { IfOk result (λ r. partial_of r.after ≡ []) }
+        ensures err { IfErr result (λ same. same ≡ fields) }
+    {
+        let start = start_of(&fields.ends, from);
+        let old = start_of(&fields.ends, to);
+        let new = (start as usize).saturating_add(others.bytes.len());
+        if new.saturating_add(fields.bytes.len() - old as usize) > 4_294_967_295 {
+            return Err(fields);
+        }
+        let Fields {
+            bytes: text,
+            ends: mut places,
+        } = others;
+        move_behind(&mut places, 0, 0, start);
+        let Fields { bytes, ends } = fields;
+        let bytes = match Splice::new(bytes, start as usize, old as usize, text) {
+            Ok(bytes) => bytes,
+            Err(bytes) => return Err(Fields { bytes, ends }),
+        };
+        match Splice::new(ends, from, to, places) {
+            Ok(ends) => Ok(Replacing {
+                bytes,
+                ends,
+                old,
+                new: new as u32,
+            }),
+            Err(ends) => Err(Fields {
+                bytes: bytes.given_up(),
+                ends,
+            }),
+        }
+    }
+
+    /// The text of the fields with the others in the range's place, each with the byte that ends it, in three pieces.
+    pub fn text(&self) -> (&[u8], &[u8], &[u8])
+        ensures { result.0.now ++ result.1.now ++ result.2.now ≡ flat_map (λ field. field) (fields_of self.now.after) }
+    {
+        (self.bytes.front(), self.bytes.middle(), self.bytes.back())
+    }
+
+    /// The fields with the others in the range's place. It cannot fail.
+    pub fn kept(self) -> Fields
+        ensures { result ≡ self.after }
+    {
+        let Replacing {
+            bytes,
+            ends,
+            old,
+            new,
+        } = self;
+        let first = ends.front().len() + ends.middle().len();
+        let mut places = ends.kept();
+        move_behind(&mut places, first, old, new);
+        Fields {
+            bytes: bytes.kept(),
+            ends: places,
+        }
+    }
+
+    /// The fields as they were. It cannot fail.
+    pub fn given_up(self) -> Fields
+        ensures { result ≡ self.before }
+    {
+        Fields {
+            bytes: self.bytes.given_up(),
+            ends: self.ends.given_up(),
+        }
     }
 }

@@ -3,11 +3,15 @@
 
 mod cells;
 pub mod content;
+pub mod draft;
 pub mod flat_fields;
+mod image;
 pub mod law;
 pub mod layout;
+mod middle;
 mod plain;
 pub mod rises;
+pub mod rows_draft;
 pub mod scan;
 pub mod table;
 pub mod written;

@@ -1,8 +1,8 @@
 //! The records of a bound table.
-ghost use Rattle.std.specs.Prelude.{◌≡◌, ◌*◌, ◌^◌, ◌<◌, true, length, option_map, slice_get, IfOk};
+ghost use Rattle.std.specs.Prelude.{◌≡◌, ◌*◌, ◌^◌, ◌<◌, [], true, length, option_map, slice_get, IfOk};
 ghost use Rattle.std.specs.List.{list_all, flat_map};
 ghost use Rattle.std.specs.Str.{is_utf8};
-ghost use Rattle.csv.specs.Records.{fields_of};
+ghost use Rattle.csv.specs.Records.{fields_of, partial_of};
 ghost use Rattle.csv_tables.specs.Held.{held_of, ended, plain_if};
 ghost use Rattle.csv_tables.specs.CsvRecords.{is_header};
 ghost use Rattle.csv_tables.specs.Flat.{cut_into, header_in};
@@ -26,6 +26,7 @@ pub struct Rows {
     pub plain: bool,
     pub ghost whole: { count * width ≡ length (held_of fields) },
     pub ghost small: { count < 2 ^ 64 },
+    pub ghost closed: { partial_of fields ≡ [] },
     pub ghost texts: { list_all is_utf8 (held_of fields) ≡ true },
     pub ghost lines: { fields_of fields ≡ flat_map ended (cut_into count width (held_of fields)) },
     pub ghost shown: { plain_if plain (cut_into count width (held_of fields)) ≡ true },

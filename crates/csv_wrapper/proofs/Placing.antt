@@ -4,7 +4,7 @@ use Rattle.std.specs.List.{list_all, list_any, AllByRecursion}
 use Rattle.std.proofs.lemmas.Bool.Decides.{eqb_tells}
 use Rattle.std.proofs.lemmas.List.Elements.{All-contains, All-from_recursion}
 use Rattle.std.proofs.lemmas.Option.{same_Some}
-use Rattle.med_value.specs.Prelude.{phase_of, Tuple, cell, tuple}
+use Rattle.med_value.specs.Prelude.{phase_of, Datum, Tuple, cell, tuple}
 use Rattle.med_value.specs.declared.value.Row.{Row}
 use Rattle.med_value.specs.declared.order.Comparison.TheVariants as comparisons
 use Rattle.med_value.specs.declared.value.ColType.{ColType}
@@ -17,25 +17,27 @@ use Rattle.fdw_api.specs.declared.interface.Fault.{Fault}
 use Rattle.fdw_api.specs.declared.interface.Fault.TheVariants.{NoMemory, Source, Refused}
 use Rattle.csv_tables.specs.declared.table.CsvTable.{CsvTable}
 use Rattle.csv_tables.specs.declared.layout.Layout.{Layout}
-use Rattle.csv_tables.specs.declared.written.Written.{Written}
+use Rattle.csv_tables.specs.declared.draft.TableDraft.{TableDraft}
 use Rattle.csv_tables.specs.Cells.{line_of}
-use Rattle.csv_tables.specs.CsvRecords.{Record, csv_records, csv_text, heading, body, has_field, is_header}
+use Rattle.csv_tables.specs.CsvRecords.{Record, csv_records, csv_text, heading, body}
 use Rattle.csv_tables.specs.Shapes.{Shape, shape_of, read_row, unless, content_causes, csv_image, records_in, all_whole, all_readable, causes_behind, hides_value, rows_text}
 use Rattle.csv_tables.specs.Content.{IsContent, TellsCause}
 use Rattle.csv_tables.specs.Flat.{header_in}
 use Rattle.csv_tables.specs.Tables.{shape_is, records_of, numbered, cells_at, fields_at}
 use Rattle.csv_tables.specs.Rewriting.{Rewrites as Remade, rows_in}
+use Rattle.csv_tables.specs.Drafted.{ShowsAs, IsLike, IsBefore, IsAfter, records_kept, image_of}
+use Rattle.csv_tables.specs.Rises.{first_column}
 use Rattle.csv_tables.specs.Scans.{comes}
 use Rattle.csv_tables.proofs.Applying.{origins}
 use Rattle.csv_tables.proofs.Placing.{row_there, rows_count}
-use Rattle.csv_tables.proofs.Headers.{heading_is_header}
 use Rattle.place_wrapper.proofs.Rows.{here}
-use Rattle.place_wrapper.specs.Forms.{GivesAt, HasAt, ReadsAs, RefusesContent, Rewrites, RefusesChanges}
+use Rattle.place_wrapper.specs.Forms.{GivesAt, HasAt, ReadsAs, RefusesContent, Rewrites, Same, Drafts, RefusesChanges}
 use Rattle.csv_wrapper.specs.CsvKind.{csv_refusals, unless_of_run, three_of_run}
 use Rattle.csv_wrapper.specs.Bound.{bound_by}
+use Rattle.csv_wrapper.specs.Rising.{AreTold}
 use Rattle.csv_wrapper.specs.Places.{csv_form, takes}
 use Rattle.wrapper_parts.specs.Places.{equals}
-use Rattle.wrapper_parts.specs.Scans.{SoughtForm, sought, sought_of, or_else, has_sought}
+use Rattle.wrapper_parts.specs.Scans.{column_cells, SoughtForm, sought, sought_of, or_else, has_sought}
 use Rattle.csv_wrapper.specs.declared.places.CsvPlaces.{CsvPlaces}
 
 both : (a b : Bool) → (a && b) ≡ true → (a ≡ true) × (b ≡ true)
@@ -117,16 +119,6 @@ reads_as remote columns settings bytes t er es content = record {
   fits = content.header_is;
 }
 
--- a table of columns has a header of a field at least
-names_field : (names : List (String Global)) → 0 < length names → has_field (map string_bytes names) ≡ true
-names_field [] lt = absurd (omega arith)
-names_field (n ∷ ns) lt = refl
-
-pub heads : (l : Layout) (bytes : List ℕ) (header : List Record) → 0 < length l.names.items → heading l.header (map string_bytes l.names.items) (csv_records bytes) ≡ header
-    → is_header l.header header ≡ true
-heads l bytes header some e =
-    ap (is_header l.header) (sym e) ∙ heading_is_header l.header (map string_bytes l.names.items) bytes (names_field l.names.items some)
-
 -- changes that are refused
 pub changes_refused : (t : CsvPlaces) (changes : List Change) (fault : Fault) → TellsCause fault (causes_behind (shape_is t.table.layout) (header_in t.table.header) (rows_in t.table) changes)
     → RefusesChanges csv_form t changes fault
@@ -142,22 +134,56 @@ changes_refused t changes (Refused c) told =
     )
 
 -- changes that are made
-pub rewrites : (t u : CsvPlaces) (changes : List Change) (w : Written) → string_bytes u.table.remote ≡ string_bytes t.table.remote → shape_is u.table.layout ≡ shape_is t.table.layout
-    → u.table.header ≡ w.header → u.table.rows ≡ w.rows → Remade t.table changes w → Rewrites csv_form t changes u w.image.items
-rewrites t u changes w er es eh ew did =
+pub rewrites : (t u : CsvPlaces) (changes : List Change) (header rs : List Record) (image : List ℕ) → string_bytes u.table.remote ≡ string_bytes t.table.remote
+    → shape_is u.table.layout ≡ shape_is t.table.layout → header_in u.table.header ≡ header → records_of u.table.rows ≡ rs → Remade t.table changes header rs image
+    → Rewrites csv_form t changes u image
+rewrites t u changes header rs image er es eh records did =
     let shape = shape_is t.table.layout in
-    let records = ap records_of ew in
-    let rows : map held (rows_in u.table) ≡ map (read_row shape) (records_of w.rows) =
+    let rows : map held (rows_in u.table) ≡ map (read_row shape) rs =
     held_numbered (shape_is u.table.layout) 0 (records_of u.table.rows) ∙ ap (λ (s : Shape). map (read_row s) (records_of u.table.rows)) es ∙ ap (map (read_row shape)) records in
     record {
       bound = ap (λ (n : List ℕ). bound_by n (shape_is u.table.layout)) er ∙ ap (bound_by (string_bytes t.table.remote)) es;
       rows = rows ∙ did.rows;
       no_cause = λ entry fits. ap (λ (l : List Record). causes_behind shape l (rows_in t.table) changes) fits ∙ did.no_cause;
       image_is = λ entry fits. ap (λ (b : List ℕ). Some (Bytes b))
-          (ap (λ (l : List Record). csv_text (heading shape.header shape.names (records_in entry) ++ l)) (ap (map (λ (r : Held). r.origin)) rows ∙ origins shape (records_of w.rows))
-          ∙ ap (λ (l : List Record). csv_text (l ++ records_of w.rows)) fits ∙ sym did.image);
-      fits = ap (λ (s : Shape). heading s.header s.names (csv_records w.image.items)) es ∙ did.header ∙ ap header_in (sym eh);
+          (ap (λ (l : List Record). csv_text (heading shape.header shape.names (records_in entry) ++ l)) (ap (map (λ (r : Held). r.origin)) rows ∙ origins shape rs)
+          ∙ ap (λ (l : List Record). csv_text (l ++ rs)) fits ∙ sym did.image_is);
+      fits = ap (λ (s : Shape). heading s.header s.names (csv_records image)) es ∙ did.header_is ∙ sym eh;
     }
+
+-- a table that shows the same
+pub same_shown : (t u : CsvPlaces) → string_bytes u.table.remote ≡ string_bytes t.table.remote → u.table.layout ≡ t.table.layout
+    → header_in u.table.header ≡ header_in t.table.header → records_of u.table.rows ≡ records_of t.table.rows → Same csv_form t u
+same_shown t u er el eh records =
+    let es : shape_is u.table.layout ≡ shape_is t.table.layout = ap shape_is el in
+    record {
+      bound = ap (λ (n : List ℕ). bound_by n (shape_is u.table.layout)) er ∙ ap (bound_by (string_bytes t.table.remote)) es;
+      rows = ap (λ (s : Shape). numbered s 0 (records_of u.table.rows)) es ∙ ap (numbered (shape_is t.table.layout) 0) records;
+      fits = λ entry fits. ap (λ (s : Shape). heading s.header s.names (records_in entry)) es ∙ fits ∙ sym eh;
+    }
+
+-- a write that is under way
+pub drafts : (t : CsvPlaces) (changes : List Change) (w : TableDraft) → IsBefore w t.table → Remade t.table changes (header_in w.after) (records_kept w.rows) (image_of w)
+    → Drafts csv_form t changes (λ u. IsAfter w u.table) (λ u. IsBefore w u.table) (image_of w)
+drafts t changes w was did = record {
+  kept = λ u is. rewrites t u changes (header_in w.after) (records_kept w.rows) (image_of w) (is.remote_is ∙ sym was.remote_is)
+      (ap shape_is (is.layout_is ∙ sym was.layout_is)) is.header_is is.records_are did;
+  given_up = λ u is. same_shown t u (is.remote_is ∙ sym was.remote_is) (is.layout_is ∙ sym was.layout_is) (is.header_is ∙ sym was.header_is)
+      (is.records_are ∙ sym was.records_are);
+}
+
+-- the cells of the first column of a table of these columns and records
+pub told_of : (t : CsvTable) (remote : List ℕ) (l : Layout) (header rs : List Record) → ShowsAs t remote l header rs
+    → first_column t ≡ column_cells 0 (numbered (shape_is l) 0 rs)
+told_of t remote l header rs is =
+    ap (λ (s : Shape). column_cells 0 (numbered s 0 (records_of t.rows))) (ap shape_is is.layout_is)
+    ∙ ap (λ (x : List Record). column_cells 0 (numbered (shape_is l) 0 x)) is.records_are
+
+pub told_as : (xs ys : List Datum) → AreTold xs → xs ≡ ys → AreTold ys
+told_as xs ys told e = subst (λ (l : List Datum). AreTold l) e told
+
+pub told_like : (t u : CsvTable) → IsLike t u → AreTold (first_column t) → AreTold (first_column u)
+told_like t u is told = told_as _ _ told (sym (told_of u (string_bytes t.remote) t.layout (header_in t.header) (records_of t.rows) is))
 
 -- a content without causes is of a table with columns
 second_clear : (a b : Bool) (more : List Cause) → unless a TooLarge (unless b InvalidFormat more) ≡ [] → b ≡ true
@@ -181,14 +207,6 @@ some_names (n ∷ names) kinds cs e k lt = omega arith
 
 pub names_there : (l : Layout) (columns : List Column) (settings : List OptionForm) → shape_is l ≡ shape_of columns settings → 0 < length l.kinds.items → 0 < length l.names.items
 names_there l columns settings e lt = some_names l.names.items l.kinds.items columns (ap (λ (s : Shape). s.names) e) (ap (λ (s : Shape). s.kinds) e) lt
-
-copied_names : (new old : List (String Global)) → map string_bytes new ≡ map string_bytes old → 0 < length old → 0 < length new
-copied_names [] [] e lt = absurd (omega arith)
-copied_names [] (n ∷ old) e lt = absurd cc
-copied_names (m ∷ new) old e lt = omega arith
-
-pub names_copied : (new old : Layout) → shape_is new ≡ shape_is old → 0 < length old.names.items → 0 < length new.names.items
-names_copied new old e lt = copied_names new.names.items old.names.items (ap (λ (s : Shape). s.names) e) lt
 
 -- the row at a place, by what its record has
 pub within_count : (t : CsvTable) (at : ℕ) → at < length (rows_in t) → at < t.rows.count

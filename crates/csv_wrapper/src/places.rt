@@ -7,15 +7,17 @@ ghost use Rattle.csv_tables.specs.Rises.{first_column};
 ghost use Rattle.csv_tables.specs.Scans.{comes};
 ghost use Rattle.csv_tables.specs.Tables.{cells_at, fields_at};
 ghost use Rattle.wrapper_parts.specs.Places.{equals};
-ghost use Rattle.wrapper_parts.specs.Scans.{SoughtForm, form_of, sought, has_sought};
+ghost use Rattle.csv_tables.specs.Drafted.{rows_before, rows_kept};
+ghost use Rattle.wrapper_parts.specs.Scans.{SoughtForm, column_cells, form_of, sought, has_sought};
 ghost use Rattle.csv_wrapper.specs.Rising.{AreTold};
 
 use csv_tables::content::{Content, read_content};
+use csv_tables::draft::TableDraft;
 use csv_tables::layout::Layout;
 use csv_tables::rises::{first_rises, stays_rising};
 use csv_tables::scan::{answer_to, comes, may_equal, show};
 use csv_tables::table::CsvTable;
-use csv_tables::written::{Written, apply_changes};
+use csv_tables::written::{Unchanged, apply_changes};
 use fdw_api::interface::{Fault, TableOption};
 use fdw_api::scan::{Agree, Restriction, ScanSpec};
 use med_value::{ColumnDef, Comparison, NoMemory, Row, Value};
@@ -32,19 +34,16 @@ pub struct CsvPlaces {
     ghost risen: { rises ≡ true → AreTold (first_column table) },
 }
 
-/// A CSV table after changes, and the image that is read again as it.
-#[derive(Drop)]
-pub(crate) struct Changed {
-    after: CsvPlaces,
-    image: Vec<u8>,
-}
-
-/// A CSV table of which a write is under way: as it was, and after its changes.
+/// A CSV table of which a write is under way.
 #[derive(Drop)]
 pub struct CsvDraft {
-    before: CsvPlaces,
-    after: CsvPlaces,
-    image: Vec<u8>,
+    written: TableDraft,
+    /// Whether the first column was known to rise.
+    rose: bool,
+    /// Whether it is known to rise once the write is kept.
+    rises: bool,
+    ghost risen_before: { rose ≡ true → AreTold (column_cells 0 (rows_before written)) },
+    ghost risen: { rises ≡ true → AreTold (column_cells 0 (rows_kept written)) },
 }
 
 // Whether the record at a place has what a scan looks for. It is decoded only where its field may be equal to the parameter.
@@ -160,57 +159,19 @@ fn found_comes(
     comes(alloc, table, at, spec, params)
 }
 
-impl CsvPlaces {
-    ghost use Rattle.std.specs.Prelude.{IfErr};
-    ghost use Rattle.std.specs.List.{list_all};
-    ghost use Rattle.fdw_api.specs.Prelude.{row_of_change_fits};
-    ghost use Rattle.wrapper_parts.specs.Staged.{change_is};
-    ghost use Rattle.place_wrapper.specs.Forms.{Rewrites, RefusesChanges};
-    ghost use Rattle.csv_wrapper.specs.Places.{csv_form};
-
-    // The table after changes, and its image.
-    fn changed(&self, alloc: Global, changes: Vec<RowChange>) -> Result<Changed, Fault>
-        requires { list_all (row_of_change_fits (csv_form.bound self.now).kinds) (map change_is changes.items) ≡ true }
-        ensures ok { IfOk result (λ made. Rewrites csv_form self.now (map change_is changes.items) made.after made.image.items) }
-        ensures err { IfErr result (λ fault. RefusesChanges csv_form self.now (map change_is changes.items) fault) }
-    {
-        let remote = self.table.remote.as_str().to_string(alloc)?;
-        let layout = self.table.layout.copy(alloc)?;
-        let rises = stays_rising(alloc, &self.table, self.rises, &changes);
-        let written = match apply_changes(alloc, &self.table, changes) {
-            Ok(written) => written,
-            Err(fault) => return Err(fault),
-        };
-        let Written {
-            header,
-            rows,
-            image,
-        } = written;
-        let table = CsvTable {
-            remote,
-            layout,
-            header,
-            rows,
-        };
-        Ok(Changed {
-            after: CsvPlaces { table, rises },
-            image,
-        })
-    }
-}
-
 impl PlacedTable for CsvPlaces {
     type Draft = CsvDraft;
 
     ghost use Rattle.csv_wrapper.specs.Places.{csv_form};
+    ghost use Rattle.csv_tables.specs.Drafted.{IsBefore, IsAfter, image_of};
 
     ghost form = { csv_form };
 
-    ghost makes = { λ draft t. t ≡ draft.after };
+    ghost makes = { λ draft t. IsAfter draft.written t.table };
 
-    ghost leaves = { λ draft t. t ≡ draft.before };
+    ghost leaves = { λ draft t. IsBefore draft.written t.table };
 
-    ghost image_of = { λ draft. draft.image.items };
+    ghost image_of = { λ draft. image_of draft.written };
 
     fn read(
         alloc: Global,
@@ -293,25 +254,36 @@ impl PlacedTable for CsvPlaces {
         alloc: Global,
         changes: Vec<RowChange>,
     ) -> Result<CsvDraft, Unwritten<CsvPlaces>> {
-        match self.changed(alloc, changes) {
-            Ok(Changed { after, image }) => Ok(CsvDraft {
-                before: self,
-                after,
-                image,
+        let CsvPlaces { table, rises: rose } = self;
+        let rises = stays_rising(alloc, &table, rose, &changes);
+        match apply_changes(alloc, table, changes) {
+            Ok(written) => Ok(CsvDraft {
+                written,
+                rose,
+                rises,
             }),
-            Err(fault) => Err(Unwritten { table: self, fault }),
+            Err(Unchanged { table, fault }) => Err(Unwritten {
+                table: CsvPlaces { table, rises: rose },
+                fault,
+            }),
         }
     }
 
     fn image<'a>(alloc: Global, draft: &'a CsvDraft) -> Result<Vec<&'a [u8]>, NoMemory> {
-        Ok(vec![in alloc; draft.image.as_slice()]?)
+        draft.written.pieces(alloc)
     }
 
     fn kept(draft: CsvDraft) -> CsvPlaces {
-        draft.after
+        CsvPlaces {
+            table: draft.written.kept(),
+            rises: draft.rises,
+        }
     }
 
     fn given_up(draft: CsvDraft) -> CsvPlaces {
-        draft.before
+        CsvPlaces {
+            table: draft.written.given_up(),
+            rises: draft.rose,
+        }
     }
 }

@@ -17,7 +17,7 @@ use Rattle.fdw_api.specs.Kinds.{Held, Change, Deletes}
 use Rattle.jsonl_wrapper.specs.Contents.{row_at, json_line}
 use Rattle.jsonl_wrapper.specs.Tables.{readers_in, lines_in}
 use Rattle.jsonl_wrapper.specs.declared.table.JsonTable.{JsonTable}
-use Rattle.jsonl_wrapper.specs.Changes.{left_by, rows_left, fate_is, fates_of}
+use Rattle.jsonl_wrapper.specs.Changes.{left_by, rows_left, fate_is, fates_of, set_lines}
 
 -- what is set for places, in their order
 abbrev Entries : Type 0
@@ -86,11 +86,6 @@ all_behind k (e ∷ es) all = (less k e.0 all.0, all_behind k es all.1)
     less : (k q : ℕ) → nat_cmp k q ≡ Less → k + 1 ≤ q
     less k q e = let lt : k < q = ranked k q Less (sym e) in omega arith
 
--- what stands in the place of a line that is set
-abbrev pub set_lines : Option (String Global) → List (List ℕ)
-set_lines None = []
-set_lines (Some line) = string_bytes line ∷ []
-
 set_outcome : (l : List ℕ) (o : Option (String Global)) → outcome string_bytes l (fate_is (Some o)) ≡ set_lines o
 set_outcome l None = refl
 set_outcome l (Some line) = refl
@@ -124,14 +119,10 @@ set_next k o es at lines all sorted lt =
       sorted.1,
     )
 
--- the lines so far, with those
-pub set_on : (done run : List (List ℕ)) (line : List ℕ) (left rest all : List (List ℕ)) → done ++ left ≡ all → left ≡ run ++ (line ∷ [] ++ rest)
-    → (done ++ run ++ line ∷ []) ++ rest ≡ all
-set_on done run line left rest all i e =
-    append_assoc (done ++ run) (line ∷ []) rest ∙ append_assoc done run (line ∷ rest) ∙ ap (λ (ls : List (List ℕ)). done ++ ls) (sym e) ∙ i
-
-pub gone_on : (done run left rest all : List (List ℕ)) → done ++ left ≡ all → left ≡ run ++ rest → (done ++ run) ++ rest ≡ all
-gone_on done run left rest all i e = append_assoc done run rest ∙ ap (λ (ls : List (List ℕ)). done ++ ls) (sym e) ∙ i
+-- the lines so far, with those and what is set
+pub put_on : (done run new left rest all : List (List ℕ)) → done ++ left ≡ all → left ≡ run ++ (new ++ rest) → (done ++ run ++ new) ++ rest ≡ all
+put_on done run new left rest all i e =
+    append_assoc (done ++ run) new rest ∙ append_assoc done run (new ++ rest) ∙ ap (λ (ls : List (List ℕ)). done ++ ls) (sym e) ∙ i
 
 -- what is set for a place behind the last line leaves all lines
 pub set_past : (k : ℕ) (o : Option (String Global)) (es : Entries) (at : ℕ) (lines : List (List ℕ)) → Behind at ((k, o) ∷ es)

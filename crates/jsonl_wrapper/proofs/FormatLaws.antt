@@ -135,7 +135,7 @@ changes_refused t changes NoMemory why = tt
 changes_refused t changes Source why = why
 changes_refused t changes (Refused c) why = (passes (where_true _ NotInState ++ where_true _ TooLarge) c why (of_run _ _), λ entry fits. why)
 
-abbrev bound_by : List ℕ → List Reader → BoxTable
+abbrev pub bound_by : List ℕ → List Reader → BoxTable
 bound_by remote readers = record {
   remote = remote;
   kinds = map (λ f. f.kind) readers;

@@ -2,12 +2,12 @@
 use Rattle.std.proofs.Common.{◌≡◌, ℕ, ◌+◌, ◌-◌, ◌<◌, ◌≤◌, ◌^◌, Bool, true, false, ◌&&◌, List, [], ◌∷◌, ◌++◌, length, map, take, drop, get_or, nat_le, nat_lt, zero, suc, refl, sym, ap, ◌∙◌, arith}
 use Rattle.std.specs.List.{list_all, slice_range}
 use Rattle.std.proofs.lemmas.Bool.{le-leb, leb-true, ltb-true, lt-ltb}
-use Rattle.std.proofs.lemmas.List.{length-append, length-take-le, length-drop, length-map, get_or-drop, get_or-map, take_more, take_at, drop_at, take_all, drop-drop, drop_more, drop-take, take-take, take-append-drop}
+use Rattle.std.proofs.lemmas.List.{length-append, length-take-le, length-drop, length-map, get_or-drop, get_or-map, take_more, take_at, drop_at, take_all, drop-drop, drop-take, take-take, take-append-drop}
 use Rattle.jsonl_wrapper.specs.declared.lines.Span.{Span}
 use Rattle.jsonl_wrapper.specs.Lines.{text_of, line_at, lines_at, spans_from, moved, is_movable, IsImage}
 use Rattle.jsonl_wrapper.proofs.LineLaws.{text_both, text_size, places_both, image_with}
 
-zero_more : (n : ℕ) → 0 + n ≡ n
+pub zero_more : (n : ℕ) → 0 + n ≡ n
 zero_more n = omega arith
 
 both : (a b : Bool) → (a && b) ≡ true → (a ≡ true) × (b ≡ true)
@@ -15,7 +15,7 @@ both true b e = (refl, e)
 both false b e = absurd cc
 
 -- so many places as lines, each as far behind the first as the lines before it are long
-places_count : (at : ℕ) (ls : List (List ℕ)) → length (spans_from at ls) ≡ length ls
+pub places_count : (at : ℕ) (ls : List (List ℕ)) → length (spans_from at ls) ≡ length ls
 places_count at [] = refl
 places_count at (l ∷ ls) = ap suc (places_count (at + length l + 1) ls)
 
@@ -45,15 +45,6 @@ may_move from to span rest e =
     let b = both (nat_le from span.end) (nat_lt (span.start - from + to) (2 ^ 64) && nat_lt (span.end - from + to) (2 ^ 64)) a.1 in
     let c = both (nat_lt (span.start - from + to) (2 ^ 64)) (nat_lt (span.end - from + to) (2 ^ 64)) b.1 in
     (leb-true from span.start a.0, leb-true from span.end b.0, ltb-true (span.start - from + to) (2 ^ 64) c.0, ltb-true (span.end - from + to) (2 ^ 64) c.1, all.1)
-
-pub moves_first : (from to i : ℕ) (spans : List Span) (d span : Span) → i < length spans → span ≡ get_or spans i d
-    → list_all (is_movable from to) (drop i spans) ≡ true
-    → (from ≤ span.start) × (from ≤ span.end) × (span.start - from + to < 2 ^ 64) × (span.end - from + to < 2 ^ 64)
-    × (list_all (is_movable from to) (drop (i + 1) spans) ≡ true) × (map (moved from to) (drop i spans) ≡ moved from to span ∷ map (moved from to) (drop (i + 1) spans))
-moves_first from to i spans d span lt es e =
-    let cut : drop i spans ≡ span ∷ drop (i + 1) spans = drop_more spans i d lt ∙ ap (λ (s : Span). s ∷ drop (i + 1) spans) (sym es) in
-    let m = may_move from to span (drop (i + 1) spans) (sym (ap (list_all (is_movable from to)) cut) ∙ e) in
-    (m.0, m.1, m.2, m.3, m.4, ap (map (moved from to)) cut)
 
 stays : (at : ℕ) (spans : List Span) → list_all (is_movable at at) spans ≡ true → map (moved at at) spans ≡ spans
 stays at [] e = refl
@@ -87,7 +78,7 @@ moves from to n (l ∷ ls) le =
     (moves from to (n + length l + 1) ls (omega arith) ∙ ap (λ (k : ℕ). spans_from k ls) b)
 
 -- a list, cut at two places
-upto_both : {X : Type 0} (xs : List X) (from to : ℕ) → from ≤ to → take to xs ≡ take from xs ++ slice_range xs from to
+pub upto_both : {X : Type 0} (xs : List X) (from to : ℕ) → from ≤ to → take to xs ≡ take from xs ++ slice_range xs from to
 upto_both {X} xs from to le =
     let m = to - from in
     let e : to ≡ from + m = omega arith in

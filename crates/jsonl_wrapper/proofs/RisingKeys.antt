@@ -1,19 +1,20 @@
 -- First columns that rise, line by line and change by change.
-use Rattle.std.proofs.Common.{◌≡◌, ◌≤◌, ◌<◌, ◌+◌, ◌≤ℤ◌, ℕ, ℤ, zero, suc, Bool, true, false, nat_eq, if◌then◌else◌, List, [], ◌∷◌, ◌++◌, length, map, flat_map, slice_get, unwrap_or, refl, ap, sym, ◌∙◌, subst, FitsSigned, w64, arith, below_more}
-use Rattle.std.proofs.lemmas.Int.{ints}
+use Rattle.std.proofs.Common.{◌≡◌, ◌<◌, ◌+◌, ℕ, ℤ, zero, suc, Bool, true, false, nat_eq, if◌then◌else◌, List, [], ◌∷◌, ◌++◌, length, flat_map, slice_get, unwrap_or, refl, ap, sym, ◌∙◌, subst, arith}
 use Rattle.std.proofs.lemmas.Bool.Decides.{nat_tests}
 use Rattle.std.proofs.lemmas.List.{map-append, length-map}
 use Rattle.med_value.specs.Datum.{Datum, Whole, Tuple, cell}
-use Rattle.fdw_api.specs.Prelude.{TableRow, Held, held, Change, Inserts, Updates, Deletes, row_after, inserted, rows_after}
+use Rattle.fdw_api.specs.Prelude.{Held, held, Change, Inserts, Updates, Deletes, row_after, inserted, rows_after}
 use Rattle.wrapper_parts.specs.Rising.{AreInOrder, AreRising}
+use Rattle.wrapper_parts.specs.KeepingRise.{RiseUpTo, KeepRising}
 use Rattle.wrapper_parts.specs.Scans.{column_cells}
+use Rattle.wrapper_parts.proofs.KeptRise.{Each, Chain, order_on, each_of, each_as, each_both, chain_of, chain_at, chain_both}
 use Rattle.jsonl_wrapper.specs.Fields.{Reader}
 use Rattle.jsonl_wrapper.specs.Objects.{cells_at}
 use Rattle.jsonl_wrapper.specs.Contents.{row_at, rows_of_lines}
 use Rattle.jsonl_wrapper.specs.Lines.{line_at}
 use Rattle.jsonl_wrapper.specs.Tables.{numbered, readers_in, lines_in}
 use Rattle.jsonl_wrapper.specs.declared.table.JsonTable.{JsonTable}
-use Rattle.jsonl_wrapper.specs.Rises.{IsKey, RiseUpTo, KeepRising, first_column, first_cells}
+use Rattle.jsonl_wrapper.specs.Rises.{first_column, first_cells}
 
 abbrev Line : Type 0
 Line = Tuple → List (List ℕ)
@@ -41,111 +42,12 @@ pub cells_there : (readers : List Reader) (lines : List (List ℕ)) → first_co
 cells_there readers [] = refl
 cells_there readers (l ∷ ls) = ap (λ (ds : List Datum). cell (cells_at readers l) 0 ∷ ds) (cells_there readers ls)
 
-le_on : (a b c d : ℤ) → a ≤ℤ b → b ≡ c → c ≤ℤ d → a ≤ℤ d
-le_on a b c d p e q = omega (arith, ints)
-
-le_same : (a : ℤ) → a ≤ℤ a
-le_same a = omega (arith, ints)
-
--- cells in order, one after the other
-order_on : (a b c : Datum) → AreInOrder a b → AreInOrder b c → AreInOrder a c
-order_on a b c p q =
-    let e : Whole p.high ≡ Whole q.low = sym p.second_is ∙ q.first_is in
-    let same : p.high ≡ q.low = cc in
-    record { low = p.low; high = q.high; first_is = p.first_is; second_is = q.second_is; fits = p.fits; order = le_on p.low p.high q.low q.high p.order same q.order }
-
-keys_in_order : (a b : Datum) (low high : ℤ) → IsKey a low → b ≡ Whole high → low ≤ℤ high → AreInOrder a b
-keys_in_order a b low high first second le = record { low = low; high = high; first_is = first.is; second_is = second; fits = first.fits; order = le }
-
-in_order_itself : (d : Datum) (key : ℤ) → IsKey d key → AreInOrder d d
-in_order_itself d key is = keys_in_order d d key key is is.is (le_same key)
-
-whole_key : (key : ℤ) → FitsSigned w64 key → IsKey (Whole key) key
-whole_key key fits = record { is = refl; fits = fits }
-
--- no cell yet
-pub up_to_none : (cells : List Datum) (key : ℤ) → FitsSigned w64 key → RiseUpTo cells key 0
-up_to_none cells key fits = record { fits = fits; rise = λ one other le lt. absurd (omega arith); below = λ one lt. absurd (omega arith) }
-
--- one cell more
-pub up_to_more : (cells : List Datum) (low key : ℤ) (at : ℕ) → RiseUpTo cells low at → IsKey (cell cells at) key → low ≤ℤ key → RiseUpTo cells key (at + 1)
-up_to_more cells low key at up is le =
-    let step : AreInOrder (Whole low) (cell cells at) = keys_in_order (Whole low) (cell cells at) low key (whole_key low up.fits) is.is le in
-    let self = in_order_itself (cell cells at) key is in
-    let last : (one : ℕ) → one < at + 1 → AreInOrder (cell cells one) (cell cells at) =
-    below_more (λ (k : ℕ). AreInOrder (cell cells k) (cell cells at)) at (λ k lt. order_on (cell cells k) (Whole low) (cell cells at) (up.below k lt) step) self in
-    let rise : (other : ℕ) → other < at + 1 → (one : ℕ) → one ≤ other → AreInOrder (cell cells one) (cell cells other) =
-    below_more (λ (k : ℕ). (one : ℕ) → one ≤ k → AreInOrder (cell cells one) (cell cells k)) at (λ k lt one order. up.rise one k order lt)
-    (λ one order. last one (omega arith)) in
-    record {
-      fits = is.fits;
-      rise = λ one other order lt. rise other lt one order;
-      below = λ one lt. subst (λ (d : Datum). AreInOrder (cell cells one) d) is.is (last one lt);
-    }
-
--- all cells
-pub up_to_all : (cells : List Datum) (key : ℤ) (at : ℕ) → RiseUpTo cells key at → length cells ≤ at → AreRising cells
-up_to_all cells key at up all = λ one other le lt. up.rise one other le (omega arith)
-
--- the last of cells that rise is over none of them
-pub up_to_last : (cells : List Datum) (at count : ℕ) (key : ℤ) → length cells ≡ count → at + 1 ≡ count → IsKey (cell cells at) key → AreRising cells
-    → RiseUpTo cells key count
-up_to_last cells at count key many last is rising = record {
-  fits = is.fits;
-  rise = λ one other le lt. rising one other le (omega arith);
-  below = λ one lt. subst (λ (d : Datum). AreInOrder (cell cells one) d) is.is (rising one at (omega arith) (omega arith));
-}
-
--- each of a list
-abbrev Each : (Datum → Type 0) → List Datum → Type 0
-Each P [] = Unit {0}
-Each P (d ∷ ds) = P d × Each P ds
-
--- each of a list is in order with itself and with those behind it
-abbrev Chain : List Datum → Type 0
-Chain [] = Unit {0}
-Chain (d ∷ ds) = Each (AreInOrder d) (d ∷ ds) × Chain ds
-
-each_at : (P : Datum → Type 0) (ds : List Datum) (k : ℕ) → Each P ds → k < length ds → P (cell ds k)
-each_at P [] k e lt = absurd (omega arith)
-each_at P (d ∷ ds) zero e lt = e.0
-each_at P (d ∷ ds) (suc k) e lt = each_at P ds k e.1 (omega arith)
-
-each_of : (P : Datum → Type 0) (ds : List Datum) → ((k : ℕ) → k < length ds → P (cell ds k)) → Each P ds
-each_of P [] h = tt
-each_of P (d ∷ ds) h = (h 0 (omega arith), each_of P ds (λ k lt. h (suc k) (omega arith)))
-
-each_as : (P Q : Datum → Type 0) (ds : List Datum) → ((d : Datum) → P d → Q d) → Each P ds → Each Q ds
-each_as P Q [] h e = tt
-each_as P Q (d ∷ ds) h e = (h d e.0, each_as P Q ds h e.1)
-
-each_both : (P : Datum → Type 0) (xs ys : List Datum) → Each P xs → Each P ys → Each P (xs ++ ys)
-each_both P [] ys a b = b
-each_both P (x ∷ xs) ys a b = (a.0, each_both P xs ys a.1 b)
-
 -- all of a list are one and the same
 abbrev Are : Datum → List Datum → Type 0
 Are d = Each (λ e. e ≡ d)
 
 each_same : (P : Datum → Type 0) (d : Datum) (ds : List Datum) → Are d ds → P d → Each P ds
 each_same P d ds same p = each_as (λ e. e ≡ d) P ds (λ e is. subst P (sym is) p) same
-
-chain_of : (ds : List Datum) → AreRising ds → Chain ds
-chain_of [] h = tt
-chain_of (d ∷ ds) h =
-    (each_of (AreInOrder d) (d ∷ ds) (λ k lt. h 0 k (omega arith) lt), chain_of ds (λ at later le lt. h (suc at) (suc later) (omega arith) (omega arith)))
-
-chain_at : (ds : List Datum) → Chain ds → (at later : ℕ) → at ≤ later → later < length ds → AreInOrder (cell ds at) (cell ds later)
-chain_at [] c at later le lt = absurd (omega arith)
-chain_at (d ∷ ds) c zero later le lt = each_at (AreInOrder d) (d ∷ ds) later c.0 lt
-chain_at (d ∷ ds) c (suc at) zero le lt = absurd (omega arith)
-chain_at (d ∷ ds) c (suc at) (suc later) le lt = chain_at ds c.1 at later (omega arith) (omega arith)
-
--- two chains, where a cell stands between them
-chain_both : (xs ys : List Datum) (b : Datum) → Chain xs → Chain ys → Each (λ d. AreInOrder d b) xs → Each (AreInOrder b) ys → Chain (xs ++ ys)
-chain_both [] ys b cx cy over below = cy
-chain_both (x ∷ xs) ys b cx cy over below =
-    (each_both (AreInOrder x) (x ∷ xs) ys cx.0 (each_as (AreInOrder b) (AreInOrder x) ys (λ d p. order_on x b d over.0 p) below), chain_both xs ys b cx.1 cy over.1 below)
 
 -- the same cell, before those behind it
 chain_same : (d : Datum) (xs ys : List Datum) → Are d xs → AreInOrder d d → Each (AreInOrder d) ys → Chain ys → Chain (xs ++ ys)
@@ -252,14 +154,6 @@ stays readers lines line key cs rising up keep =
     (kept_chain line cells (Whole key) cs readers 0 lines keep stand (chain_of cells rising)) fresh.0
     (kept_each (λ d. AreInOrder d (Whole key)) line cells (Whole key) cs readers 0 lines keep stand below) fresh.1 in
     chain_at (first_cells (left ++ new)) (subst Chain (sym (map-append (λ (h : Held). cell h.cells 0) left new)) both)
-
--- an insertion of a row that begins with a key which is not less than the one before it
-pub insert_on : (cells : List Datum) (low key : ℤ) (x : Tuple) → FitsSigned w64 low → IsKey (cell x 0) key → low ≤ℤ key → (cs : List Change)
-    → KeepRising cells (Whole key) cs → KeepRising cells (Whole low) (Inserts x ∷ cs)
-insert_on cells low key x fits is le cs keep = (
-  keys_in_order (Whole low) (cell x 0) low key (whole_key low fits) is.is le,
-  (in_order_itself (cell x 0) key is, subst (λ (d : Datum). KeepRising cells d cs) (sym is.is) keep),
-)
 
 -- lines whose rows are those after changes rise, where those rows do
 pub after_rises : (readers : List Reader) (lines : List (List ℕ)) (rows : List Held) → rows_of_lines readers lines ≡ rows

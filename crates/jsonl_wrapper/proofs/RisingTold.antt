@@ -1,5 +1,5 @@
 -- Cells that rise and the tests by which it is told are the same.
-use Rattle.std.proofs.Common.{◌≡◌, ◌≤◌, ◌<◌, ◌^◌, ◌≤ℤ◌, ◌&&◌, not, ℕ, ℤ, pos, negsuc, Bool, true, false, nat_lt, List, FitsSigned, w64, refl, ap, sym, ◌∙◌, arith}
+use Rattle.std.proofs.Common.{◌≡◌, ◌<◌, ◌^◌, ◌≤ℤ◌, ◌&&◌, not, ℕ, ℤ, pos, negsuc, Bool, true, false, nat_lt, List, FitsSigned, w64, refl, ap, ◌∙◌, arith}
 use Rattle.std.proofs.lemmas.Int.{ints}
 use Rattle.std.proofs.lemmas.Bool.Decides.{nat_tests}
 use Rattle.std.specs.Ordering.{is_lt, int_cmp}

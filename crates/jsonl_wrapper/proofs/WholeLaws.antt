@@ -1,8 +1,7 @@
 -- The kept cells of integer columns.
-use Rattle.std.proofs.Common.{◌≡◌, ℕ, ℤ, ◌+◌, ◌-◌, ◌*◌, ◌<◌, ◌≤◌, Bool, true, false, if◌then◌else◌, List, [], ◌∷◌, ◌++◌, Option, Some, length, map, take, drop, get_or, slice_get, unwrap_or, zero, suc, refl, ap, sym, ◌∙◌, arith, rules}
+use Rattle.std.proofs.Common.{◌≡◌, ℕ, ◌+◌, ◌-◌, ◌*◌, ◌<◌, ◌≤◌, Bool, true, false, if◌then◌else◌, List, [], ◌∷◌, ◌++◌, Option, Some, length, map, take, drop, get_or, slice_get, unwrap_or, zero, suc, refl, ap, sym, ◌∙◌, arith}
 use Rattle.std.specs.List.{slice_range}
 use Rattle.std.proofs.lemmas.List.{length-append, length-map, take_at, take_all, drop_at, drop-drop}
-use Rattle.std.proofs.lemmas.List.Concat.{flat_map-append}
 use Rattle.std.proofs.Math.ListN.{drop_of_length-le}
 use Rattle.std.proofs.Math.Seq.{drop-append-add, take-append-add}
 use native.Mathlib.Nat.{mul-le-mul_right, suc-mul, add-mul}
@@ -93,12 +92,12 @@ wholes_count t =
     sym (length-map t.wholes.items whole_is) ∙ ap length t.kept ∙ wholes_length (readers_in t) (lines_in t)
     ∙ ap (λ (n : ℕ). n * length (whole_readers (readers_in t))) (lines_count t.content.items t.lines.items)
 
-map_take : {X Y : Type 0} (f : X → Y) (n : ℕ) (xs : List X) → map f (take n xs) ≡ take n (map f xs)
+pub map_take : {X Y : Type 0} (f : X → Y) (n : ℕ) (xs : List X) → map f (take n xs) ≡ take n (map f xs)
 map_take f zero xs = refl
 map_take f (suc n) [] = refl
 map_take f (suc n) (x ∷ xs) = ap (λ (ys : List _). f x ∷ ys) (map_take f n xs)
 
-map_drop : {X Y : Type 0} (f : X → Y) (n : ℕ) (xs : List X) → map f (drop n xs) ≡ drop n (map f xs)
+pub map_drop : {X Y : Type 0} (f : X → Y) (n : ℕ) (xs : List X) → map f (drop n xs) ≡ drop n (map f xs)
 map_drop f zero xs = refl
 map_drop f (suc n) [] = refl
 map_drop f (suc n) (x ∷ xs) = map_drop f n xs
@@ -152,24 +151,8 @@ whole_there t at column f less ef whole =
     let value = json_of (line_in t at) in
     slot_there value t.fields.items column f less ef whole ∙ read_there value t.fields.items column f less ef
 
--- the cells of one line more
-pub wholes_on : (readers : List Reader) (lines : List (List ℕ)) (line : List ℕ) (kept next : List (Option ℤ))
-    → map whole_is kept ≡ wholes_of readers lines → map whole_is next ≡ map whole_is kept ++ wholes_at readers line
-    → map whole_is next ≡ wholes_of readers (lines ++ line ∷ [])
-wholes_on readers lines line kept next is en =
-    let none : wholes_at readers line ≡ wholes_at readers line ++ [] = search rules in
-    en ∙ ap (λ (vs : Tuple). vs ++ wholes_at readers line) is ∙ ap (λ (vs : Tuple). wholes_of readers lines ++ vs) none
-    ∙ sym (flat_map-append (wholes_at readers) lines (line ∷ []))
-
--- and of lines that follow others
-pub wholes_follow : (readers : List Reader) (lines more all : List (List ℕ)) (kept next : List (Option ℤ))
-    → map whole_is kept ≡ wholes_of readers lines → map whole_is next ≡ map whole_is kept ++ wholes_of readers more → all ≡ lines ++ more
-    → map whole_is next ≡ wholes_of readers all
-wholes_follow readers lines more all kept next is en ea =
-    en ∙ ap (λ (vs : Tuple). vs ++ wholes_of readers more) is ∙ sym (flat_map-append (wholes_at readers) lines more) ∙ ap (wholes_of readers) (sym ea)
-
 -- the cells of some first lines, and of the others
-wholes_drop : (readers : List Reader) (lines : List (List ℕ)) (n : ℕ)
+pub wholes_drop : (readers : List Reader) (lines : List (List ℕ)) (n : ℕ)
     → drop (n * length (whole_readers readers)) (wholes_of readers lines) ≡ wholes_of readers (drop n lines)
 wholes_drop readers lines zero =
     let w = length (whole_readers readers) in
@@ -182,7 +165,7 @@ wholes_drop readers (l ∷ ls) (suc n) =
     ap (λ (k : ℕ). drop k (wholes_at readers l ++ wholes_of readers ls)) e
     ∙ drop-append-add (wholes_at readers l) (wholes_of readers ls) (n * w) ∙ wholes_drop readers ls n
 
-wholes_take : (readers : List Reader) (lines : List (List ℕ)) (n : ℕ)
+pub wholes_take : (readers : List Reader) (lines : List (List ℕ)) (n : ℕ)
     → take (n * length (whole_readers readers)) (wholes_of readers lines) ≡ wholes_of readers (take n lines)
 wholes_take readers lines zero =
     let w = length (whole_readers readers) in

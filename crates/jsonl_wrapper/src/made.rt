@@ -10,11 +10,11 @@ use crate::known::wholes_between;
 use crate::lines::Image;
 use crate::ranges::push_range;
 use crate::table::JsonTable;
-use crate::wholes::{count_wholes, push_line};
+use crate::wholes::push_line;
 use med_value::NoMemory;
 use std::alloc::Global;
 
-/// The lines after a write, and what the integer columns read in them.
+/// Lines that a write makes, and what the integer columns read in them.
 #[derive(Drop)]
 pub struct LinesWritten {
     pub image: Image,
@@ -23,22 +23,15 @@ pub struct LinesWritten {
 }
 
 impl LinesWritten {
-    /// No lines, with room for those of a table and for so many new ones, which take so many bytes, so that none of them is copied twice.
-    /// It fails for want of memory alone.
+    /// No lines, with room for so many bytes, lines and integers. It fails for want of memory alone.
     pub(crate) fn with_room(
         alloc: Global,
-        table: &JsonTable,
-        fresh: usize,
-        size: usize,
+        bytes: usize,
+        count: usize,
+        wholes: usize,
     ) -> Result<LinesWritten, NoMemory>
         ensures { IfOk result (λ made. (readers : List Reader) → IsWritten readers made []) }
     {
-        // One byte more for the last line of a content, which may have no line feed.
-        let bytes = table.content.len().saturating_add(1).saturating_add(size);
-        let count = table.lines.len().saturating_add(fresh);
-        let wholes = fresh
-            .saturating_mul(count_wholes(&table.fields))
-            .saturating_add(table.wholes.len());
         Ok(LinesWritten {
             image: Image::with_room(alloc, bytes, count)?,
             wholes: Vec::with_capacity(alloc, wholes)?,

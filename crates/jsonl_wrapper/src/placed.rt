@@ -1,17 +1,23 @@
 //! Tables of JSON lines as tables of rows at places.
-ghost use Rattle.std.specs.Prelude.{◌≡◌, ◌<◌, slice_get, length, IfOk};
+ghost use Rattle.std.specs.Prelude.{◌≡◌, ◌<◌, true, ℕ, List, slice_get, length, IfOk, IfErr};
 ghost use Rattle.std.specs.List.{list_any};
 ghost use Rattle.med_value.specs.Datum.{datum, tuple, cell};
 ghost use Rattle.fdw_api.specs.Scan.{test_form, pick, shown_cells, spec_of};
 ghost use Rattle.jsonl_wrapper.specs.Wholes.{is_other};
-ghost use Rattle.jsonl_wrapper.specs.Tables.{kinds_in, row_cells};
+ghost use Rattle.fdw_api.specs.declared.interface.Fault.{Fault};
+ghost use Rattle.jsonl_wrapper.specs.Tables.{kinds_in, row_cells, readers_in};
+ghost use Rattle.jsonl_wrapper.specs.Rises.{first_column, AreTold};
+ghost use Rattle.jsonl_wrapper.specs.Changes.{Exchanges};
+ghost use Rattle.jsonl_wrapper.specs.Keeping.{IsAgain, IsDraft};
 ghost use Rattle.jsonl_wrapper.specs.Formats.{answer_on};
 
 use crate::contents::{LinesRead, cell_of_line, read_lines, row_of_line};
-use crate::fields::{copy_fields, fields_of};
+use crate::draft::JsonDraft;
+use crate::drafting::{draft_of, given_up, kept};
+use crate::exchange::Exchange;
+use crate::fields::fields_of;
 use crate::known::{known_cell, takes_known};
 use crate::lines::{is_image, line_at};
-use crate::made::LinesWritten;
 use crate::rewrite::rewritten;
 use crate::rises::{marked, stays_rising};
 use crate::table::JsonTable;
@@ -127,58 +133,41 @@ fn answer_on(kind: Option<ColType>, test: &Test) -> Agree
     }
 }
 
-/// A table of which a write is under way: as it was, and as it is to be.
-#[derive(Drop)]
-pub struct JsonDraft {
-    before: JsonTable,
-    after: JsonTable,
-}
-
-impl JsonTable {
-    ghost use Rattle.std.specs.Prelude.{true, map, IfErr};
-    ghost use Rattle.std.specs.List.{list_all};
-    ghost use Rattle.fdw_api.specs.Writes.{row_of_change_fits};
-    ghost use Rattle.wrapper_parts.specs.Staged.{change_is};
-    ghost use Rattle.place_wrapper.specs.Forms.{Rewrites, RefusesChanges};
-    ghost use Rattle.jsonl_wrapper.specs.Formats.{json_form};
-
-    // The table after changes, whose content is its image.
-    fn changed(&self, alloc: Global, changes: Vec<RowChange>) -> Result<JsonTable, Fault>
-        requires { list_all (row_of_change_fits (json_form.bound self.now).kinds) (map change_is changes.items) ≡ true }
-        ensures ok { IfOk result (λ t. Rewrites json_form self.now (map change_is changes.items) t t.content.items) }
-        ensures err { IfErr result (λ fault. RefusesChanges json_form self.now (map change_is changes.items) fault) }
-    {
-        let remote = self.remote.as_str().to_string(alloc)?;
-        let fields = copy_fields(alloc, &self.fields)?;
-        let rises = stays_rising(self, &changes);
-        let LinesWritten { image, wholes } = match rewritten(alloc, self, changes) {
-            Ok(made) => made,
-            Err(fault) => return Err(fault),
-        };
-        Ok(JsonTable {
-            remote,
-            fields,
-            content: image.content,
-            lines: image.lines,
-            is_image: true,
-            wholes,
-            rises,
-        })
+/// A draft of a table for an exchange. It fails for want of memory alone, and then the table comes back.
+fn drafted(
+    table: JsonTable,
+    exchange: Exchange,
+    stays: bool,
+) -> Result<JsonDraft, Unwritten<JsonTable>>
+    requires { (lines : List (List ℕ)) × Exchanges table exchange lines
+        × (stays ≡ true → AreTold (first_column (readers_in table) lines)) }
+    ensures ok { IfOk result (λ d. IsDraft table exchange d) }
+    ensures same { IfErr result (λ unwritten. IsAgain table unwritten.table) }
+    ensures err { IfErr result (λ unwritten. unwritten.fault ≡ Fault.NoMemory) }
+{
+    match draft_of(table, exchange, stays) {
+        Ok(draft) => Ok(draft),
+        Err(table) => Err(Unwritten {
+            table,
+            fault: Fault::NoMemory,
+        }),
     }
 }
 
 impl PlacedTable for JsonTable {
+    ghost use Rattle.wrapper_parts.specs.Splices.{after_of};
     ghost use Rattle.jsonl_wrapper.specs.Formats.{json_form};
+    ghost use Rattle.jsonl_wrapper.specs.Keeping.{Leaves, Makes};
 
     type Draft = JsonDraft;
 
     ghost form = { json_form };
 
-    ghost makes = { λ draft t. t ≡ draft.after };
+    ghost makes = { Makes };
 
-    ghost leaves = { λ draft t. t ≡ draft.before };
+    ghost leaves = { Leaves };
 
-    ghost image_of = { λ draft. draft.after.content.items };
+    ghost image_of = { λ d. after_of d.content };
 
     fn read(
         alloc: Global,
@@ -253,24 +242,26 @@ impl PlacedTable for JsonTable {
         alloc: Global,
         changes: Vec<RowChange>,
     ) -> Result<JsonDraft, Unwritten<JsonTable>> {
-        match self.changed(alloc, changes) {
-            Ok(after) => Ok(JsonDraft {
-                before: self,
-                after,
-            }),
+        let stays = stays_rising(&self, &changes);
+        match rewritten(alloc, &self, changes) {
+            Ok(exchange) => drafted(self, exchange, stays),
             Err(fault) => Err(Unwritten { table: self, fault }),
         }
     }
 
     fn image<'a>(alloc: Global, draft: &'a JsonDraft) -> Result<Vec<&'a [u8]>, NoMemory> {
-        Ok(vec![in alloc; draft.after.content.as_slice()]?)
+        let mut pieces = Vec::with_capacity(alloc, 3)?;
+        pieces.push(draft.content.front())?;
+        pieces.push(draft.content.middle())?;
+        pieces.push(draft.content.back())?;
+        Ok(pieces)
     }
 
     fn kept(draft: JsonDraft) -> JsonTable {
-        draft.after
+        kept(draft)
     }
 
     fn given_up(draft: JsonDraft) -> JsonTable {
-        draft.before
+        given_up(draft)
     }
 }

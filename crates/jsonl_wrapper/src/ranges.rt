@@ -9,7 +9,7 @@ use crate::table::JsonTable;
 use med_value::NoMemory;
 
 /// Where the line of a place begins, or what stands behind the last one.
-fn start_of(table: &JsonTable, at: usize) -> usize
+pub(crate) fn start_of(table: &JsonTable, at: usize) -> usize
     requires image { table.now.is_image ≡ true }
     requires within { at ≤ length table.now.lines.items }
     ensures { result ≡ length (text_of (take at (lines_in table.now))) }

@@ -1,12 +1,13 @@
 //! Whether the first column of a table rises.
-ghost use Rattle.std.specs.Prelude.{◌≡◌, ◌<◌, ◌∷◌, ◌≤ℤ◌, true, List, map, length, FitsSigned, IfSome};
+ghost use Rattle.std.specs.Prelude.{◌≡◌, ◌<◌, ◌∷◌, true, List, map, length, IfSome};
 ghost use Rattle.med_value.specs.Datum.{Whole, cell, tuple};
 ghost use Rattle.fdw_api.specs.Prelude.{Change, rows_after};
 ghost use Rattle.wrapper_parts.specs.Staged.{change_is};
 ghost use Rattle.wrapper_parts.specs.Rising.{AreRising};
+ghost use Rattle.wrapper_parts.specs.KeepingRise.{IsKey, RiseUpTo, KeepRising};
 ghost use Rattle.jsonl_wrapper.specs.Contents.{json_line};
 ghost use Rattle.jsonl_wrapper.specs.Tables.{readers_in, lines_in, rows_in};
-ghost use Rattle.jsonl_wrapper.specs.Rises.{IsKey, RiseUpTo, KeepRising, first_column, first_cells};
+ghost use Rattle.jsonl_wrapper.specs.Rises.{first_column, first_cells};
 
 use crate::known::known_cell;
 use crate::table::JsonTable;

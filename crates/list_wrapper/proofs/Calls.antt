@@ -12,14 +12,14 @@ use Rattle.med_value.specs.declared.value.ColType.{ColType}
 use Rattle.fdw_api.specs.Prelude.{Spec, GivenRow, TableRow, IsComing, given_row, first_of, shown_cells, shown_fits, row_fits, BoxTable, Scan, scan_of, LeavesOthers, new_scan, Begins, RefusesBegin, GivesRow, GivesNone, Breaks, Rescans, Ends, row_of}
 use Rattle.fdw_api.specs.declared.interface.Fault.TheVariants.{NoMemory}
 use Rattle.fdw_api.specs.declared.interface.SourceRow.{SourceRow}
-use Rattle.list_wrapper.specs.declared.list.ListTable.{ListTable}
+use Rattle.list_wrapper.specs.declared.held_tables.Table.{Table}
 use Rattle.list_wrapper.specs.declared.scans.ListScan.{ListScan}
 use Rattle.list_wrapper.specs.declared.changes.ListWrite.{ListWrite}
-use Rattle.list_wrapper.specs.Lists.{listed, rows_fit}
+use Rattle.list_wrapper.specs.Lists.{rows_fit}
 use Rattle.list_wrapper.specs.declared.scans.Step.{Step}
 use Rattle.list_wrapper.specs.declared.scans.Walk.{Walk}
 use Rattle.list_wrapper.specs.declared.scans.Walk.TheVariants.{InTurn, Within, ByIndex, ByKeys}
-use Rattle.list_wrapper.specs.Scans.{numbered, spec_is, params_of, left_by_keys, rows_ahead, rows_to_come, rows_at, listed_kinds, kinds_at, marked_bound, scan_is, scan_rows, mapped, list_state, NextIs, one_less, index_of, index_in, newer, Bounds, ScanFits, ScansFit}
+use Rattle.list_wrapper.specs.Scans.{table_listed, numbered, spec_is, params_of, left_by_keys, rows_ahead, rows_to_come, rows_at, listed_kinds, kinds_at, marked_bound, scan_is, scan_rows, mapped, list_state, NextIs, one_less, index_of, index_in, newer, Bounds, ScanFits, ScansFit}
 use Rattle.wrapper_parts.specs.declared.index.PlaceIndex.{PlaceIndex}
 use Rattle.wrapper_parts.specs.Scans.{is_taken, rows_at_places as rows_of_places, Serves, Stands}
 use Rattle.list_wrapper.proofs.Numbered.{numbered_fit}
@@ -43,7 +43,7 @@ pub at_some : {X : Type 0} (o : Option X) → IsSome o → (x : X) × (o ≡ Som
 at_some None e = absurd cc
 at_some (Some x) e = (x, refl)
 
-pub open_there : (tables : List ListTable) (bound : List Bool) (m : BTreeMap ℕ ListScan) (staged : Option ListWrite) (next pulled n : ℕ) (scan : Scan) → scan_of (list_state tables bound m staged next pulled) n ≡ Some scan → IsSome (tree.get nat_cmp m n)
+pub open_there : (tables : List Table) (bound : List Bool) (m : BTreeMap ℕ ListScan) (staged : Option ListWrite) (next pulled n : ℕ) (scan : Scan) → scan_of (list_state tables bound m staged next pulled) n ≡ Some scan → IsSome (tree.get nat_cmp m n)
 open_there tables bound m staged next pulled n scan e = there (scan_is tables) _ _ (sym (mapped_get (scan_is tables) m n) ∙ e)
 
 abbrev Fresh : BTreeMap ℕ ListScan → ℕ → Type 0
@@ -62,7 +62,7 @@ keeps_fresh m n number next w fresh is u k le = split (eqb_tells k number)
     split (inr s) = u.2 k (apart number k s.1) ∙ fresh k le
 
 -- only this ticket changes
-others : (tables : List ListTable) (bound : List Bool) (m n : BTreeMap ℕ ListScan) (staged : Option ListWrite) (number next next' pulled pulled' : ℕ) (w : Option ListScan) → tree.UpdatesBy nat_cmp (nat_cmp number) m n w → LeavesOthers number (list_state tables bound m staged next pulled) (list_state tables bound n staged next' pulled')
+others : (tables : List Table) (bound : List Bool) (m n : BTreeMap ℕ ListScan) (staged : Option ListWrite) (number next next' pulled pulled' : ℕ) (w : Option ListScan) → tree.UpdatesBy nat_cmp (nat_cmp number) m n w → LeavesOthers number (list_state tables bound m staged next pulled) (list_state tables bound n staged next' pulled')
 others tables bound m n staged number next next' pulled pulled' w u = record {
   coming = λ q live other. ap (scan_rows tables) (u.2 q (apart number q other));
   rows = λ t other. refl;
@@ -70,7 +70,7 @@ others tables bound m n staged number next next' pulled pulled' w u = record {
 }
 
 -- the types of a bound table are those at its place
-pub kinds_bound : (f : Bool) (o : Option ListTable) (b : BoxTable) → marked_bound f o ≡ Some b → listed_kinds o ≡ b.kinds
+pub kinds_bound : (f : Bool) (o : Option Table) (b : BoxTable) → marked_bound f o ≡ Some b → listed_kinds o ≡ b.kinds
 kinds_bound false o b e = absurd cc
 kinds_bound true None b e = absurd cc
 kinds_bound true (Some x) b e = ap (λ (o : Option BoxTable). kinds_or o) e
@@ -79,7 +79,7 @@ kinds_bound true (Some x) b e = ap (λ (o : Option BoxTable). kinds_or o) e
     kinds_or None = []
     kinds_or (Some z) = z.kinds
 
-pub list_begins : (tables : List ListTable) (bound : List Bool) (m n : BTreeMap ℕ ListScan) (staged : Option ListWrite) (t next pulled : ℕ) (spec : Spec) (params : Tuple) (s : ListScan) (b : BoxTable) → marked_bound (slice_index_or bound t false) (slice_get tables t) ≡ Some b → tree.get nat_cmp m next ≡ None → next < 2 ^ 64 - 1 → tree.Updates nat_cmp m n next (Some s) → s.table ≡ t → spec_is s ≡ spec → params_of s ≡ params → s.at ≡ 0 → s.more ≡ s.limit → s.broken ≡ false
+pub list_begins : (tables : List Table) (bound : List Bool) (m n : BTreeMap ℕ ListScan) (staged : Option ListWrite) (t next pulled : ℕ) (spec : Spec) (params : Tuple) (s : ListScan) (b : BoxTable) → marked_bound (slice_index_or bound t false) (slice_get tables t) ≡ Some b → tree.get nat_cmp m next ≡ None → next < 2 ^ 64 - 1 → tree.Updates nat_cmp m n next (Some s) → s.table ≡ t → spec_is s ≡ spec → params_of s ≡ params → s.at ≡ 0 → s.more ≡ s.limit → s.broken ≡ false
     → IsComing (numbered 0 (rows_at tables t)) spec params (rows_to_come spec params (numbered 0 (rows_at tables t)) s.walk 0 spec.limit)
     → Begins (list_state tables bound m staged next pulled) t spec params next (list_state tables bound n staged (next + 1) pulled)
 list_begins tables bound m n staged t next pulled spec params s b is_bound fresh room u et es ep ea em eb comes =
@@ -113,7 +113,7 @@ both true b e = (refl, e)
 both false b e = absurd cc
 
 -- the rows of each table are of its types, and so is what a scan gives of them
-pub rows_fit_at : (ts : List ListTable) (t : ℕ) → rows_fit (map listed ts) ≡ true → list_all (row_fits (kinds_at ts t)) (map tuple (rows_at ts t)) ≡ true
+pub rows_fit_at : (ts : List Table) (t : ℕ) → rows_fit (map table_listed ts) ≡ true → list_all (row_fits (kinds_at ts t)) (map tuple (rows_at ts t)) ≡ true
 rows_fit_at [] zero e = refl
 rows_fit_at [] (suc t) e = refl
 rows_fit_at (x ∷ ts) zero e = (both (list_all (row_fits x.kinds.items) (map tuple x.rows.items)) _ e).0
@@ -171,14 +171,14 @@ left_typed kinds spec params rows (Within span) at shows e = shown_typed kinds s
 left_typed kinds spec params rows (ByIndex x) at shows e = shown_typed kinds spec params (drop at rows) shows (rest_fit kinds at rows e)
 left_typed kinds spec params rows (ByKeys places) at shows e = shown_all kinds spec (left_by_keys places.items rows at) shows (places_fit kinds (drop at places.items) rows e)
 
-row_typed : (tables : List ListTable) (s : ListScan) (row : SourceRow) (rest : List GivenRow) → ShowsTyped → rows_fit (map listed tables) ≡ true → scan_rows tables (Some s) ≡ row_of row ∷ rest → shown_fits (kinds_at tables s.table) (spec_is s) (row_of row).cells ≡ true
+row_typed : (tables : List Table) (s : ListScan) (row : SourceRow) (rest : List GivenRow) → ShowsTyped → rows_fit (map table_listed tables) ≡ true → scan_rows tables (Some s) ≡ row_of row ∷ rest → shown_fits (kinds_at tables s.table) (spec_is s) (row_of row).cells ≡ true
 row_typed tables s row rest shows typed e =
     let kinds = kinds_at tables s.table in
     let fit = numbered_fit kinds 0 (rows_at tables s.table) ∙ rows_fit_at tables s.table typed in
     let all = cut_fits (λ (r : GivenRow). shown_fits kinds (spec_is s) r.cells) s.more _ (left_typed kinds (spec_is s) (params_of s) (numbered 0 (rows_at tables s.table)) s.walk s.at shows fit) in
     (both (shown_fits kinds (spec_is s) (row_of row).cells) _ (subst (λ (l : List GivenRow). list_all (λ r. shown_fits kinds (spec_is s) r.cells) l ≡ true) e all)).0
 
-pub list_gives : (tables : List ListTable) (bound : List Bool) (m n : BTreeMap ℕ ListScan) (staged : Option ListWrite) (next pulled number : ℕ) (s : ListScan) (step : Step) → ShowsTyped → rows_fit (map listed tables) ≡ true → tree.get nat_cmp m number ≡ Some s → NextIs (spec_is s) (params_of s) (numbered 0 (rows_at tables s.table)) s.walk s.at s.more (Some step) → tree.Updates nat_cmp m n number (Some (record s { at = step.after; more = one_less s.more })) → GivesRow (list_state tables bound m staged next pulled) number (row_of step.row) (list_state tables bound n staged next (min (pulled + 1) (2 ^ 64 - 1)))
+pub list_gives : (tables : List Table) (bound : List Bool) (m n : BTreeMap ℕ ListScan) (staged : Option ListWrite) (next pulled number : ℕ) (s : ListScan) (step : Step) → ShowsTyped → rows_fit (map table_listed tables) ≡ true → tree.get nat_cmp m number ≡ Some s → NextIs (spec_is s) (params_of s) (numbered 0 (rows_at tables s.table)) s.walk s.at s.more (Some step) → tree.Updates nat_cmp m n number (Some (record s { at = step.after; more = one_less s.more })) → GivesRow (list_state tables bound m staged next pulled) number (row_of step.row) (list_state tables bound n staged next (min (pulled + 1) (2 ^ 64 - 1)))
 list_gives tables bound m n staged next pulled number s step shows typed is next_is u = record {
   nature = refl;
   scan = scan_is tables s;
@@ -193,7 +193,7 @@ list_gives tables bound m n staged next pulled number s step shows typed is next
   leaves = λ honest. others tables bound m n staged number next next pulled _ _ u;
 }
 
-pub list_gives_none : (tables : List ListTable) (bound : List Bool) (m : BTreeMap ℕ ListScan) (staged : Option ListWrite) (next pulled number : ℕ) (s : ListScan) → tree.get nat_cmp m number ≡ Some s → NextIs (spec_is s) (params_of s) (numbered 0 (rows_at tables s.table)) s.walk s.at s.more None → GivesNone (list_state tables bound m staged next pulled) number (list_state tables bound m staged next pulled)
+pub list_gives_none : (tables : List Table) (bound : List Bool) (m : BTreeMap ℕ ListScan) (staged : Option ListWrite) (next pulled number : ℕ) (s : ListScan) → tree.get nat_cmp m number ≡ Some s → NextIs (spec_is s) (params_of s) (numbered 0 (rows_at tables s.table)) s.walk s.at s.more None → GivesNone (list_state tables bound m staged next pulled) number (list_state tables bound m staged next pulled)
 list_gives_none tables bound m staged next pulled number s is next_is = record {
   nature = refl;
   ledger = refl;
@@ -202,7 +202,7 @@ list_gives_none tables bound m staged next pulled number s is next_is = record {
   leaves = λ honest. record { coming = λ q l o. refl; rows = λ t o. refl; holdings = λ r o. refl };
 }
 
-pub list_breaks : (tables : List ListTable) (bound : List Bool) (m n : BTreeMap ℕ ListScan) (staged : Option ListWrite) (next pulled number : ℕ) (s : ListScan) → tree.get nat_cmp m number ≡ Some s → tree.Updates nat_cmp m n number (Some (record s { broken = true })) → Breaks (list_state tables bound m staged next pulled) number NoMemory (list_state tables bound n staged next pulled)
+pub list_breaks : (tables : List Table) (bound : List Bool) (m n : BTreeMap ℕ ListScan) (staged : Option ListWrite) (next pulled number : ℕ) (s : ListScan) → tree.get nat_cmp m number ≡ Some s → tree.Updates nat_cmp m n number (Some (record s { broken = true })) → Breaks (list_state tables bound m staged next pulled) number NoMemory (list_state tables bound n staged next pulled)
 list_breaks tables bound m n staged next pulled number s is u = record {
   nature = refl;
   no_cause = tt;
@@ -212,7 +212,7 @@ list_breaks tables bound m n staged next pulled number s is u = record {
   leaves = λ honest. others tables bound m n staged number next next pulled pulled _ u;
 }
 
-pub list_rescans : (tables : List ListTable) (bound : List Bool) (m n : BTreeMap ℕ ListScan) (staged : Option ListWrite) (next pulled number : ℕ) (params : Tuple) (s t : ListScan) → tree.get nat_cmp m number ≡ Some s → s.broken ≡ false → tree.Updates nat_cmp m n number (Some t) → t.table ≡ s.table → spec_is t ≡ spec_is s → params_of t ≡ params → t.at ≡ 0 → t.more ≡ s.limit → t.broken ≡ s.broken
+pub list_rescans : (tables : List Table) (bound : List Bool) (m n : BTreeMap ℕ ListScan) (staged : Option ListWrite) (next pulled number : ℕ) (params : Tuple) (s t : ListScan) → tree.get nat_cmp m number ≡ Some s → s.broken ≡ false → tree.Updates nat_cmp m n number (Some t) → t.table ≡ s.table → spec_is t ≡ spec_is s → params_of t ≡ params → t.at ≡ 0 → t.more ≡ s.limit → t.broken ≡ s.broken
     → IsComing (numbered 0 (rows_at tables s.table)) (spec_is s) params (rows_to_come (spec_is s) params (numbered 0 (rows_at tables s.table)) t.walk 0 s.limit)
     → Rescans (list_state tables bound m staged next pulled) number params (list_state tables bound n staged next pulled)
 list_rescans tables bound m n staged next pulled number params s t is whole u et es ep ea em eb comes =
@@ -233,7 +233,7 @@ list_rescans tables bound m n staged next pulled number params s t is whole u et
     same : (s t : ListScan) → t.table ≡ s.table → spec_is t ≡ spec_is s → params_of t ≡ params → t.broken ≡ false → scan_is tables t ≡ new_scan s.table (kinds_at tables s.table) (spec_is s) params (2 ^ 64 - t.at)
     same s t et es ep eb = rw (es, ep, et, eb) refl
 
-pub list_ends : (tables : List ListTable) (bound : List Bool) (m n : BTreeMap ℕ ListScan) (staged : Option ListWrite) (next pulled number : ℕ) → tree.UpdatesBy nat_cmp (nat_cmp number) m n None → Ends (list_state tables bound m staged next pulled) number (list_state tables bound n staged next pulled)
+pub list_ends : (tables : List Table) (bound : List Bool) (m n : BTreeMap ℕ ListScan) (staged : Option ListWrite) (next pulled number : ℕ) → tree.UpdatesBy nat_cmp (nat_cmp number) m n None → Ends (list_state tables bound m staged next pulled) number (list_state tables bound n staged next pulled)
 list_ends tables bound m n staged next pulled number u = record {
   nature = refl;
   ledger = ap (λ (l : finmap.FinMap nat_cmp Scan). record (list_state tables bound m staged next pulled).ledger { live = l }) (mapped_remove (scan_is tables) m n number u);
@@ -241,7 +241,7 @@ list_ends tables bound m n staged next pulled number u = record {
 }
 
 -- a scan that is open is whole
-pub is_whole : (tables : List ListTable) (bound : List Bool) (m : BTreeMap ℕ ListScan) (staged : Option ListWrite) (next pulled n : ℕ) (s : ListScan) (scan : Scan) → tree.get nat_cmp m n ≡ Some s → scan_of (list_state tables bound m staged next pulled) n ≡ Some scan → scan.broken ≡ false → s.broken ≡ false
+pub is_whole : (tables : List Table) (bound : List Bool) (m : BTreeMap ℕ ListScan) (staged : Option ListWrite) (next pulled n : ℕ) (s : ListScan) (scan : Scan) → tree.get nat_cmp m n ≡ Some s → scan_of (list_state tables bound m staged next pulled) n ≡ Some scan → scan.broken ≡ false → s.broken ≡ false
 is_whole tables bound m staged next pulled n s scan is at whole =
     ap (λ (z : Scan). z.broken) (some_inj (scan_is tables s) scan (sym (mapped_get (scan_is tables) m n ∙ ap (option_map (scan_is tables)) is) ∙ at)) ∙ whole
 
@@ -253,14 +253,14 @@ pub some_if : {X : Type 0} (o : Option X) (P : X → Type 0) (x : X) → o ≡ S
 some_if o P x e p = subst (λ (z : Option _). IfSome z P) (sym e) p
 
 -- a change of a scan leaves all scans fitting
-pub keeps_fitting : (tables : List ListTable) (m n : BTreeMap ℕ ListScan) (number : ℕ) (w : ListScan) → ScansFit tables m → ScanFits (rows_at tables w.table) w → tree.UpdatesBy nat_cmp (nat_cmp number) m n (Some w) → ScansFit tables n
+pub keeps_fitting : (tables : List Table) (m n : BTreeMap ℕ ListScan) (number : ℕ) (w : ListScan) → ScansFit tables m → ScanFits (rows_at tables w.table) w → tree.UpdatesBy nat_cmp (nat_cmp number) m n (Some w) → ScansFit tables n
 keeps_fitting tables m n number w old is u q s e = split (eqb_tells q number)
   where
     split : ((eqb q number ≡ true) × (q ≡ number)) ⊎ ((eqb q number ≡ false) × (q ≢ number)) → ScanFits (rows_at tables s.table) s
     split (inl p) = subst (λ (z : ListScan). ScanFits (rows_at tables z.table) z) (some_inj w s (sym u.1 ∙ ap (tree.get nat_cmp n) (sym p.1) ∙ e)) is
     split (inr p) = old q s (sym (u.2 q (apart number q p.1)) ∙ e)
 
-pub ends_fitting : (tables : List ListTable) (m n : BTreeMap ℕ ListScan) (number : ℕ) → ScansFit tables m → tree.UpdatesBy nat_cmp (nat_cmp number) m n None → ScansFit tables n
+pub ends_fitting : (tables : List Table) (m n : BTreeMap ℕ ListScan) (number : ℕ) → ScansFit tables m → tree.UpdatesBy nat_cmp (nat_cmp number) m n None → ScansFit tables n
 ends_fitting tables m n number old u q s e = split (eqb_tells q number)
   where
     neither : (o : Option ListScan) → o ≡ None → o ≡ Some s → ⊥
@@ -282,7 +282,7 @@ starts_fitting rows spec params walk old was new bounds = (serves walk new, λ x
     serves (Some w) new = new
 
 -- scans whose entries are the same
-pub same_fitting : (tables : List ListTable) (m n : BTreeMap ℕ ListScan) → n.entries ≡ m.entries → ScansFit tables m → ScansFit tables n
+pub same_fitting : (tables : List Table) (m n : BTreeMap ℕ ListScan) → n.entries ≡ m.entries → ScansFit tables m → ScansFit tables n
 same_fitting tables m n same old q s e = old q s (sym (ap (λ es. lookup (is_at (nat_cmp q)) es) same) ∙ e)
 
 pub same_fresh : (m n : BTreeMap ℕ ListScan) (next : ℕ) → n.entries ≡ m.entries → Fresh m next → Fresh n next
@@ -298,7 +298,7 @@ drops_fresh m n number next fresh u k le = split (eqb_tells k number)
 pub begins_fresh : (m n : BTreeMap ℕ ListScan) (next : ℕ) (t : ListScan) → Fresh m next → tree.Updates nat_cmp m n next (Some t) → Fresh n (next + 1)
 begins_fresh m n next t fresh u k le = u.2 k (apart next k (λ e. absurd (omega arith))) ∙ fresh k (omega arith)
 
-pub refused_begin : (tables : List ListTable) (bound : List Bool) (m n : BTreeMap ℕ ListScan) (staged : Option ListWrite) (next pulled : ℕ) → n.entries ≡ m.entries → RefusesBegin NoMemory (list_state tables bound m staged next pulled) (list_state tables bound n staged next pulled)
+pub refused_begin : (tables : List Table) (bound : List Bool) (m n : BTreeMap ℕ ListScan) (staged : Option ListWrite) (next pulled : ℕ) → n.entries ≡ m.entries → RefusesBegin NoMemory (list_state tables bound m staged next pulled) (list_state tables bound n staged next pulled)
 refused_begin tables bound m n staged next pulled same = record {
   refuses = record {
     nature = refl;

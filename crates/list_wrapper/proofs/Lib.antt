@@ -1,4 +1,5 @@
 pub mod Names
+pub mod RunsOfRows
 pub mod Numbered
 pub mod Maps
 pub mod Rows
@@ -7,6 +8,7 @@ pub mod Walks
 pub mod Calls
 pub mod Tables
 pub mod NewLists
+pub mod TakingOut
 pub mod Kept
 pub mod Closing
 pub mod RisingLists

@@ -3,10 +3,10 @@ use Rattle.std.proofs.Common.{◌≡◌, ℕ, Bool, false, List, None, map, opti
 use Rattle.std.specs.Ordering.{nat_cmp}
 use Rattle.std.specs.BTreeMap as tree
 use Rattle.std.specs.BTreeMap.{BTreeMap}
-use Rattle.list_wrapper.specs.declared.list.ListTable.{ListTable}
+use Rattle.list_wrapper.specs.declared.held_tables.Table.{Table}
 use Rattle.list_wrapper.specs.declared.scans.ListScan.{ListScan}
-use Rattle.list_wrapper.specs.Lists.{listed, IsNewList}
-use Rattle.list_wrapper.specs.Scans.{list_state, marked_bound, scan_is}
+use Rattle.list_wrapper.specs.Lists.{IsNewList}
+use Rattle.list_wrapper.specs.Scans.{table_listed, list_state, marked_bound, scan_is}
 use Rattle.list_wrapper.proofs.Maps.{mapped_get}
 
 -- no table is marked
@@ -15,7 +15,7 @@ unmarked zero t = refl
 unmarked (suc n) zero = refl
 unmarked (suc n) (suc t) = unmarked n t
 
-pub new_list : (tables : List ListTable) (bound : List Bool) (scans : BTreeMap ℕ ListScan) (n : ℕ) → bound ≡ replicate n false → ((q : ℕ) → tree.get nat_cmp scans q ≡ None) → IsNewList (list_state tables bound scans None 0 0) (map listed tables)
+pub new_list : (tables : List Table) (bound : List Bool) (scans : BTreeMap ℕ ListScan) (n : ℕ) → bound ≡ replicate n false → ((q : ℕ) → tree.get nat_cmp scans q ≡ None) → IsNewList (list_state tables bound scans None 0 0) (map table_listed tables)
 new_list tables bound scans n none_bound none_live = record {
   kind = refl;
   honest = refl;

@@ -13,11 +13,12 @@ use Rattle.wrapper_parts.specs.KeepingRise.{IsKey, KeepRising, KeepsRise, fresh_
 use Rattle.wrapper_parts.specs.Scans.{column_cells, is_taken}
 use Rattle.wrapper_parts.proofs.KeptRise.{Each, Chain, chain_of, chain_at, rises_on}
 use Rattle.wrapper_parts.proofs.Taking.{takes_exact}
-use Rattle.list_wrapper.specs.declared.list.ListTable.{ListTable}
+use Rattle.list_wrapper.specs.declared.held_tables.Table.{Table}
 use Rattle.list_wrapper.specs.declared.changes.ListChange.{ListChange}
 use Rattle.list_wrapper.specs.declared.changes.ListChange.TheVariants.{Insert, Update, Delete}
 use Rattle.list_wrapper.specs.Ordered.{AreOrdered}
-use Rattle.list_wrapper.specs.Changes.{change_is, row_changed, fresh_rows, stay}
+use Rattle.list_wrapper.specs.Changes.{change_is, row_changed, fresh_rows}
+use Rattle.list_wrapper.specs.Stay.{stay}
 use Rattle.list_wrapper.specs.Scans.{numbered, keys_of, rows_at, listed_rows, left_in_turn, Spans, Rises}
 use Rattle.list_wrapper.proofs.Closing.{set_there, set_other}
 
@@ -212,7 +213,7 @@ push_mark (x ∷ marks) b (suc t) e = later (push_mark marks b t e)
     later (inr p) = inr (ap (λ (k : ℕ). suc k) p.0, p.1)
 
 -- the first cells of a table that is marked rise
-pub rises_at : (tables : List ListTable) (marks : List Bool) (t : ℕ) → Rises tables marks → slice_index_or marks t false ≡ true
+pub rises_at : (tables : List Table) (marks : List Bool) (t : ℕ) → Rises tables marks → slice_index_or marks t false ≡ true
     → AreRising (keys_of (rows_at tables t))
 rises_at tables marks t h e k later le lt = in_order _ _ (h t k later e le (let n = keys_length (rows_at tables t) in omega arith))
   where
@@ -230,7 +231,7 @@ other_default [] t d e lt = absurd (omega arith)
 other_default (b ∷ marks) zero d e lt = refl
 other_default (b ∷ marks) (suc t) d e lt = other_default marks t d e (omega arith)
 
-pub marked_rise : (tables : List ListTable) (marks : List Bool) (t : ℕ) (x : ListTable) (b : Bool) → slice_get tables t ≡ Some x
+pub marked_rise : (tables : List Table) (marks : List Bool) (t : ℕ) (x : Table) (b : Bool) → slice_get tables t ≡ Some x
     → length marks ≡ length tables → b ≡ get_or marks t b → b ≡ true → Rises tables marks → AreRising (keys_of x.rows.items)
 marked_rise tables marks t x b is many here mark h =
     let lt = slice_get_within tables t x is in
@@ -248,7 +249,7 @@ at_rows : (rows : List Row) (k later : ℕ) → AreRising (keys_of rows) → k �
     → AreOrdered (cell (keys_of rows) k) (cell (keys_of rows) later)
 at_rows rows k later h le lt = ordered _ _ (h k later le (let n = keys_length rows in omega arith))
 
-pub rises_pushed : (tables : List ListTable) (marks : List Bool) (b : Bool) → MarkedSo b (rows_at tables (length marks)) → Rises tables marks
+pub rises_pushed : (tables : List Table) (marks : List Bool) (b : Bool) → MarkedSo b (rows_at tables (length marks)) → Rises tables marks
     → Rises tables (marks ++ b ∷ [])
 rises_pushed tables marks b here h t k later e le lt = tell (push_mark marks b t e)
   where
@@ -265,7 +266,7 @@ set_mark (x ∷ marks) (suc t) b e = set_mark marks t b e
 other_mark : (marks : List Bool) (t q : ℕ) (b : Bool) → q ≢ t → slice_index_or (slice_set marks t b) q false ≡ slice_index_or marks q false
 other_mark marks t q b ne = search rules
 
-pub rises_set : (tables : List ListTable) (marks : List Bool) (t : ℕ) (b : Bool) (x y : ListTable) → slice_get tables t ≡ Some x
+pub rises_set : (tables : List Table) (marks : List Bool) (t : ℕ) (b : Bool) (x y : Table) → slice_get tables t ≡ Some x
     → MarkedSo b y.rows.items → Rises tables marks → Rises (slice_set tables t y) (slice_set marks t b)
 rises_set tables marks t b x y is here h q k later e le lt = tell (eqb_tells q t)
   where

@@ -14,29 +14,29 @@ use Rattle.med_value.specs.declared.value.ColType.{ColType}
 use Rattle.med_value.specs.declared.value.ColType.TheVariants as types
 use Rattle.fdw_api.specs.Prelude.{Column, OptionForm, Held, held, kinds_of, Reading, Spec, row_fits, BoxTable, BoxState, set_at, table_of, Allows, CanBind, Binds, IsLeast, RefusesBind, AllowsPromise}
 use Rattle.fdw_api.specs.declared.interface.Fault.TheVariants.{Refused}
-use Rattle.list_wrapper.specs.declared.list.ListTable.{ListTable}
+use Rattle.list_wrapper.specs.declared.held_tables.Table.{Table}
 use Rattle.list_wrapper.specs.declared.scans.ListScan.{ListScan}
 use Rattle.list_wrapper.specs.declared.changes.ListWrite.{ListWrite}
-use Rattle.list_wrapper.specs.Lists.{list_image, list_reading, same_type, types_match, entry_of, listed, rows_fit}
-use Rattle.list_wrapper.specs.Scans.{numbered, stored, entry_at, rows_at, listed_rows, listed_kinds, bound_of, marked_bound, list_state}
+use Rattle.list_wrapper.specs.Lists.{list_image, list_reading, same_type, types_match, entry_of, rows_fit}
+use Rattle.list_wrapper.specs.Scans.{table_listed, numbered, stored, entry_at, rows_at, listed_rows, listed_kinds, bound_of, marked_bound, list_state}
 use Rattle.list_wrapper.proofs.Calls.{rows_fit_at}
 
 pub some_inj : {A : Type 0} (a b : A) → Some a ≡ Some b → a ≡ b
 some_inj a b q = cc
 
-bound_allows : (spec : Spec) (f : Bool) (o : Option ListTable) → IsSome (marked_bound f o) → (b : BoxTable) × (marked_bound f o ≡ Some b) × (b.allows spec ≡ true)
+bound_allows : (spec : Spec) (f : Bool) (o : Option Table) → IsSome (marked_bound f o) → (b : BoxTable) × (marked_bound f o ≡ Some b) × (b.allows spec ≡ true)
 bound_allows spec false o e = absurd cc
 bound_allows spec true None e = absurd cc
 bound_allows spec true (Some t) e = (bound_of t, refl, refl)
 
 -- a bound list allows every scan
-pub list_allows : (tables : List ListTable) (bound : List Bool) (scans : BTreeMap ℕ ListScan) (staged : Option ListWrite) (next pulled t : ℕ) (spec : Spec) → IsSome (table_of (list_state tables bound scans staged next pulled) t) → Allows (list_state tables bound scans staged next pulled) t spec
+pub list_allows : (tables : List Table) (bound : List Bool) (scans : BTreeMap ℕ ListScan) (staged : Option ListWrite) (next pulled t : ℕ) (spec : Spec) → IsSome (table_of (list_state tables bound scans staged next pulled) t) → Allows (list_state tables bound scans staged next pulled) t spec
 list_allows tables bound scans staged next pulled t spec e =
     let w = bound_allows spec (slice_index_or bound t false) (slice_get tables t) e in
     record { bound = w.0; is = w.1; allowed = w.2 }
 
 -- and what a list promises of it
-pub list_promises : (tables : List ListTable) (bound : List Bool) (scans : BTreeMap ℕ ListScan) (staged : Option ListWrite) (next pulled t : ℕ) (spec : Spec) → IsSome (table_of (list_state tables bound scans staged next pulled) t) → AllowsPromise (list_state tables bound scans staged next pulled) t spec
+pub list_promises : (tables : List Table) (bound : List Bool) (scans : BTreeMap ℕ ListScan) (staged : Option ListWrite) (next pulled t : ℕ) (spec : Spec) → IsSome (table_of (list_state tables bound scans staged next pulled) t) → AllowsPromise (list_state tables bound scans staged next pulled) t spec
 list_promises tables bound scans staged next pulled t spec e = record {
   allows = list_allows tables bound scans staged next pulled t spec e;
   may = λ none. absurd cc;
@@ -49,7 +49,7 @@ mark_other : (bs : List Bool) (i q : ℕ) (b : Bool) → q ≢ i → slice_index
 mark_other bs i q b ne = search rules
 
 -- the marks after one is set
-marks : (tables : List ListTable) (bound : List Bool) (t : ℕ) (b : Bool) (new : Option BoxTable) → t < length bound → marked_bound b (slice_get tables t) ≡ new → (q : ℕ) → marked_bound (slice_index_or (slice_set bound t b) q false) (slice_get tables q) ≡ set_at (λ u. marked_bound (slice_index_or bound u false) (slice_get tables u)) t new q
+marks : (tables : List Table) (bound : List Bool) (t : ℕ) (b : Bool) (new : Option BoxTable) → t < length bound → marked_bound b (slice_get tables t) ≡ new → (q : ℕ) → marked_bound (slice_index_or (slice_set bound t b) q false) (slice_get tables q) ≡ set_at (λ u. marked_bound (slice_index_or bound u false) (slice_get tables u)) t new q
 marks tables bound t b new lt e q = split (eqb_tells q t)
   where
     split : ((eqb q t ≡ true) × (q ≡ t)) ⊎ ((eqb q t ≡ false) × (q ≢ t)) → marked_bound (slice_index_or (slice_set bound t b) q false) (slice_get tables q) ≡ set_at (λ u. marked_bound (slice_index_or bound u false) (slice_get tables u)) t new q
@@ -90,17 +90,17 @@ unfolding IsDistinct
 numbered_once n [] = tt
 numbered_once n (r ∷ rs) = (below n (n + 1) rs (omega arith), numbered_once (n + 1) rs)
 
-not_marked : (s : BoxState) (t : ℕ) (x : ListTable) (f : Bool) (remote : List ℕ) → ((b : BoxTable) → marked_bound f (Some x) ≡ Some b → b.remote ≢ remote) → string_bytes x.name ≡ remote → f ≡ false
+not_marked : (s : BoxState) (t : ℕ) (x : Table) (f : Bool) (remote : List ℕ) → ((b : BoxTable) → marked_bound f (Some x) ≡ Some b → b.remote ≢ remote) → string_bytes x.name ≡ remote → f ≡ false
 not_marked s t x true remote free e = absurd (free (bound_of x) refl e)
 not_marked s t x false remote free e = refl
 
-pub list_binds : (tables : List ListTable) (bound : List Bool) (scans : BTreeMap ℕ ListScan) (staged : Option ListWrite) (next pulled t : ℕ) (remote : List ℕ) (columns : List Column) (settings : List OptionForm) (x : ListTable) → t < length bound → CanBind (list_state tables bound scans staged next pulled) remote columns settings → entry_of (map listed tables) remote ≡ entry_at tables (Some t) → slice_get tables t ≡ Some x → bytes_eq (string_bytes x.name) remote ≡ true → types_match x.kinds.items (kinds_of columns) ≡ true → rows_fit (map listed tables) ≡ true → Binds (list_state tables bound scans staged next pulled) remote columns settings t (list_state tables (slice_set bound t true) scans staged next pulled)
+pub list_binds : (tables : List Table) (bound : List Bool) (scans : BTreeMap ℕ ListScan) (staged : Option ListWrite) (next pulled t : ℕ) (remote : List ℕ) (columns : List Column) (settings : List OptionForm) (x : Table) → t < length bound → CanBind (list_state tables bound scans staged next pulled) remote columns settings → entry_of (map table_listed tables) remote ≡ entry_at tables (Some t) → slice_get tables t ≡ Some x → bytes_eq (string_bytes x.name) remote ≡ true → types_match x.kinds.items (kinds_of columns) ≡ true → rows_fit (map table_listed tables) ≡ true → Binds (list_state tables bound scans staged next pulled) remote columns settings t (list_state tables (slice_set bound t true) scans staged next pulled)
 list_binds tables bound scans staged next pulled t remote columns settings x lt can is_entry at same fits typed =
     let named : string_bytes x.name ≡ remote = (bytes_decides (string_bytes x.name) remote).0 same in
     let kinds = types_same x.kinds.items (kinds_of columns) fits in
     let readable : list_all (row_fits (kinds_of columns)) (map tuple x.rows.items) ≡ true =
     ap (λ (k : List ColType). list_all (row_fits k) (map tuple x.rows.items)) (sym kinds)
-    ∙ ap (λ (o : Option ListTable). list_all (row_fits (listed_kinds o)) (map tuple (listed_rows o))) (sym at) ∙ rows_fit_at tables t typed in
+    ∙ ap (λ (o : Option Table). list_all (row_fits (listed_kinds o)) (map tuple (listed_rows o))) (sym at) ∙ rows_fit_at tables t typed in
     let free : slice_index_or bound t false ≡ false = not_marked (list_state tables bound scans staged next pulled) t x (slice_index_or bound t false) remote (λ b e. can.free t b (ap (marked_bound (slice_index_or bound t false)) at ∙ e)) named in
     record {
       nature = refl;
@@ -135,14 +135,14 @@ only_cause c p has = record {
     at_one d q d_has (inr same) = let e = some_inj p q (sym has ∙ ap phase_of same ∙ d_has) in omega arith
 
 -- a list source refuses a table that it does not have
-pub list_lacks : (tables : List ListTable) (bound : List Bool) (scans : BTreeMap ℕ ListScan) (staged : Option ListWrite) (next pulled : ℕ) (remote : List ℕ) (columns : List Column) (settings : List OptionForm) → entry_of (map listed tables) remote ≡ None → RefusesBind (list_state tables bound scans staged next pulled) remote columns settings (Refused TableNotFound) (list_state tables bound scans staged next pulled)
+pub list_lacks : (tables : List Table) (bound : List Bool) (scans : BTreeMap ℕ ListScan) (staged : Option ListWrite) (next pulled : ℕ) (remote : List ℕ) (columns : List Column) (settings : List OptionForm) → entry_of (map table_listed tables) remote ≡ None → RefusesBind (list_state tables bound scans staged next pulled) remote columns settings (Refused TableNotFound) (list_state tables bound scans staged next pulled)
 list_lacks tables bound scans staged next pulled remote columns settings none = record {
   refuses = record { nature = refl; next = next; rises = omega arith; stays = λ e. e; keeps = λ e. refl; ledger = refl; leaves = λ honest. record { coming = λ q l o. refl; rows = λ u o. refl; holdings = λ r o. refl } };
   cause = (refl, λ honest. (None, sym none, only_cause TableNotFound 5 refl));
 }
 
 -- and columns of other types
-pub list_mismatches : (tables : List ListTable) (bound : List Bool) (scans : BTreeMap ℕ ListScan) (staged : Option ListWrite) (next pulled t : ℕ) (remote : List ℕ) (columns : List Column) (settings : List OptionForm) (x : ListTable) → entry_of (map listed tables) remote ≡ entry_at tables (Some t) → slice_get tables t ≡ Some x → types_match x.kinds.items (kinds_of columns) ≡ false → RefusesBind (list_state tables bound scans staged next pulled) remote columns settings (Refused InvalidDataType) (list_state tables bound scans staged next pulled)
+pub list_mismatches : (tables : List Table) (bound : List Bool) (scans : BTreeMap ℕ ListScan) (staged : Option ListWrite) (next pulled t : ℕ) (remote : List ℕ) (columns : List Column) (settings : List OptionForm) (x : Table) → entry_of (map table_listed tables) remote ≡ entry_at tables (Some t) → slice_get tables t ≡ Some x → types_match x.kinds.items (kinds_of columns) ≡ false → RefusesBind (list_state tables bound scans staged next pulled) remote columns settings (Refused InvalidDataType) (list_state tables bound scans staged next pulled)
 list_mismatches tables bound scans staged next pulled t remote columns settings x is_entry at differs = record {
   refuses = record { nature = refl; next = next; rises = omega arith; stays = λ e. e; keeps = λ e. refl; ledger = refl; leaves = λ honest. record { coming = λ q l o. refl; rows = λ u o. refl; holdings = λ r o. refl } };
   cause = (refl, λ honest. (Some (stored x), sym (is_entry ∙ ap (option_map stored) at), subst (λ (r : Reading). IsLeast r.causes InvalidDataType) (sym reading) (only_cause InvalidDataType 5 refl)));

@@ -1,17 +1,17 @@
 -- How a scan goes from place to place, and that what it then has to give it may give.
-use Rattle.std.proofs.Common.{◌≡◌, ℕ, ◌+◌, ◌<◌, ◌≤◌, IsPermutation, IsSorted, None, rules, Bool, true, false, not, List, [], ◌∷◌, ◌++◌, Option, map, filter, length, drop, take, get_or, zero, suc, refl, ap, sym, ◌∙◌, subst, arith, is_some, replicate}
+use Rattle.std.proofs.Common.{◌≡◌, ℕ, ◌+◌, ◌<◌, ◌≤◌, IsPermutation, IsSorted, Some, None, rules, Bool, true, false, not, List, [], ◌∷◌, ◌++◌, Option, map, filter, length, drop, take, get_or, zero, suc, refl, ap, sym, ◌∙◌, subst, arith, is_some, replicate}
 use Rattle.std.proofs.lemmas.List.{drop_all, drop_more}
 use Rattle.std.proofs.lemmas.List.Sorted.{IsPermutation-filter_both, IsPermutation-trans, IsPermutation-append_left, All-permutation}
 use Rattle.std.proofs.lemmas.List.Elements.{filter_passes, All-weaker}
 use Rattle.med_value.specs.Datum.{Tuple, tuple}
 use Rattle.med_value.specs.declared.value.Row.{Row}
-use Rattle.fdw_api.specs.Prelude.{Spec, KeyForm, TableRow, row_cmp, IsComing, given_row, shown_cells, meets_exact, WishForm, all_exact, is_fair}
+use Rattle.fdw_api.specs.Prelude.{Spec, KeyForm, TableRow, row_cmp, IsComing, GivenRow, given_row, first_of, shown_cells, meets_exact, WishForm, all_exact, is_fair}
 use Rattle.wrapper_parts.specs.Scans.{is_taken, rows_taken, rows_at_places as rows_of_places}
 use Rattle.wrapper_parts.proofs.Taking.{takes_sound, takes_exact}
 use Rattle.list_wrapper.specs.declared.spans.Span.{Span}
 use Rattle.list_wrapper.specs.declared.scans.Walk.{Walk}
 use Rattle.list_wrapper.specs.declared.scans.Walk.TheVariants.{InTurn, Within, ByIndex, ByKeys}
-use Rattle.list_wrapper.specs.Scans.{numbered, left_by_keys, rows_ahead, rows_to_come, Turns, Spans, Arranges, index_of}
+use Rattle.list_wrapper.specs.Scans.{numbered, left_by_keys, rows_ahead, rows_to_come, Turns, Spans, Arranges, NextIs, index_of}
 use Rattle.list_wrapper.proofs.Numbered.{next_numbered, length_numbered}
 use Rattle.list_wrapper.proofs.Calls.{first_map}
 use Rattle.fdw_api.specs.declared.scan.Agree.{Agree}
@@ -100,3 +100,27 @@ turns_plainly spec params rows InTurn h = refl
 turns_plainly spec params rows (Within span) h = refl
 turns_plainly spec params rows (ByIndex x) h = absurd h
 turns_plainly spec params rows (ByKeys places) h = absurd h
+
+-- of no rows none comes
+none_taken : (n : ℕ) (X : Type 0) → take {A = X} n [] ≡ []
+none_taken zero X = refl
+none_taken (suc n) X = refl
+
+none_placed : (places : List ℕ) → rows_of_places places [] ≡ []
+none_placed [] = refl
+none_placed (p ∷ ps) = ap (λ (l : List TableRow). take 1 l ++ rows_of_places ps []) (drop_all p [] (omega arith)) ∙ none_placed ps
+
+none_ahead : (spec : Spec) (params : Tuple) (walk : Walk) (at : ℕ) → rows_ahead spec params [] walk at ≡ []
+none_ahead spec params InTurn at = ap (filter (is_taken spec params)) (drop_all at [] (omega arith))
+none_ahead spec params (Within span) at = ap (filter (is_taken spec params)) (drop_all at [] (omega arith))
+none_ahead spec params (ByIndex x) at = ap (filter (is_taken spec params)) (drop_all at [] (omega arith))
+none_ahead spec params (ByKeys places) at = none_placed (drop at places.items)
+
+pub none_next : (spec : Spec) (params : Tuple) (rows : List Row) (walk : Walk) (at : ℕ) (more : Option ℕ) → rows ≡ [] → NextIs spec params (numbered 0 rows) walk at more None
+none_next spec params rows walk at more none =
+    ap (λ (l : List Row). first_of more (map (given_row spec) (rows_ahead spec params (numbered 0 l) walk at))) none
+    ∙ ap (λ (l : List TableRow). first_of more (map (given_row spec) l)) (none_ahead spec params walk at) ∙ none_first more
+  where
+    none_first : (more : Option ℕ) → first_of {X = GivenRow} more [] ≡ []
+    none_first None = refl
+    none_first (Some n) = none_taken n GivenRow

@@ -63,12 +63,6 @@ fresh_rows (Insert r ∷ cs) = r ∷ fresh_rows cs
 fresh_rows (Update j r ∷ cs) = fresh_rows cs
 fresh_rows (Delete j ∷ cs) = fresh_rows cs
 
--- the rows that are not marked as gone; those behind the last mark stay
-abbrev pub stay : List Row → List Bool → List Row
-stay [] gone = []
-stay (r ∷ rows) [] = r ∷ stay rows []
-stay (r ∷ rows) (g ∷ gone) = if g then stay rows gone else r ∷ stay rows gone
-
 -- why a write that would leave these rows is refused: memory, or that they are too many
 abbrev pub StandsFor : Fault → List Held → Type 0
 StandsFor NoMemory after = Unit {0}

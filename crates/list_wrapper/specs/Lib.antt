@@ -1,4 +1,6 @@
 pub mod Lists
+pub mod Stay
+pub mod Runs
 pub mod Changes
 pub mod Ordered
 pub mod Scans

@@ -14,7 +14,7 @@ use Rattle.med_value.specs.declared.value.ColType.{ColType}
 use Rattle.std.specs.List.{list_all}
 use Rattle.wrapper_parts.specs.declared.index.PlaceIndex.{PlaceIndex}
 use Rattle.wrapper_parts.specs.Scans.{is_taken, rows_taken, rows_at_places as rows_of_places, Serves, Stands}
-use Rattle.list_wrapper.specs.declared.list.ListTable.{ListTable}
+use Rattle.list_wrapper.specs.declared.held_tables.Table.{Table}
 use Rattle.list_wrapper.specs.declared.scans.ListScan.{ListScan}
 use Rattle.list_wrapper.specs.Ordered.{AreOrdered, ordered_once}
 use Rattle.list_wrapper.specs.declared.spans.Span.{Span}
@@ -22,7 +22,7 @@ use Rattle.list_wrapper.specs.declared.scans.Step.{Step}
 use Rattle.list_wrapper.specs.declared.scans.Walk.{Walk}
 use Rattle.list_wrapper.specs.declared.scans.Walk.TheVariants.{InTurn, Within, ByIndex, ByKeys}
 use Rattle.list_wrapper.specs.declared.changes.ListWrite.{ListWrite}
-use Rattle.list_wrapper.specs.Lists.{entry_of, listed, list_kind, list_image, list_refusals, no_line}
+use Rattle.list_wrapper.specs.Lists.{Listed, entry_of, list_kind, list_image, list_refusals, no_line}
 use Rattle.list_wrapper.specs.Changes.{write_is}
 
 -- rows with their places as ids
@@ -146,50 +146,53 @@ abbrev pub StandsAfter : List Row → ListScan → Option Step → Type 0
 StandsAfter rows s None = Unit {0}
 StandsAfter rows s (Some step) = Stands (spec_is s) (params_of s) (numbered 0 rows) step.after (index_of s.walk)
 
--- a table as it stands in the source
-abbrev pub stored : ListTable → Entry
+-- a table as it is listed, and as it stands in the source
+abbrev pub table_listed : Table → Listed
+table_listed t = record { name = string_bytes t.name; kinds = t.kinds.items; rows = map tuple t.rows.items }
+
+abbrev pub stored : Table → Entry
 stored t = Stored t.kinds.items (map tuple t.rows.items)
 
 -- the entry of the table at a place
-abbrev pub entry_at : List ListTable → Option ℕ → Option Entry
+abbrev pub entry_at : List Table → Option ℕ → Option Entry
 entry_at tables None = None
 entry_at tables (Some t) = option_map stored (slice_get tables t)
 
 -- the rows of the table at a place, none where there is no table
-abbrev pub listed_rows : Option ListTable → List Row
+abbrev pub listed_rows : Option Table → List Row
 listed_rows None = []
 listed_rows (Some t) = t.rows.items
 
-abbrev pub rows_at : List ListTable → ℕ → List Row
+abbrev pub rows_at : List Table → ℕ → List Row
 rows_at tables t = listed_rows (slice_get tables t)
 
 -- where a table is marked as rising, the cells of its first column rise
-abbrev pub Rises : List ListTable → List Bool → Type 0
+abbrev pub Rises : List Table → List Bool → Type 0
 Rises tables rising = (t k later : ℕ) → slice_index_or rising t false ≡ true → k ≤ later → later < length (rows_at tables t)
     → AreOrdered (cell (keys_of (rows_at tables t)) k) (cell (keys_of (rows_at tables t)) later)
 
 -- that they do is a fact
-pub rises_once : (tables : List ListTable) (rising : List Bool) → IsProp (Rises tables rising)
+pub rises_once : (tables : List Table) (rising : List Bool) → IsProp (Rises tables rising)
 rises_once tables rising = λ f g i t k later marked le lt. ordered_once _ _ (f t k later marked le lt) (g t k later marked le lt) i
 
-abbrev pub ScansFit : List ListTable → BTreeMap ℕ ListScan → Type 0
+abbrev pub ScansFit : List Table → BTreeMap ℕ ListScan → Type 0
 ScansFit tables scans = (q : ℕ) (s : ListScan) → tree.get nat_cmp scans q ≡ Some s → ScanFits (rows_at tables s.table) s
 
 -- the types of the columns of the table at a place
-abbrev pub listed_kinds : Option ListTable → List ColType
+abbrev pub listed_kinds : Option Table → List ColType
 listed_kinds None = []
 listed_kinds (Some t) = t.kinds.items
 
-abbrev pub kinds_at : List ListTable → ℕ → List ColType
+abbrev pub kinds_at : List Table → ℕ → List ColType
 kinds_at tables t = listed_kinds (slice_get tables t)
 
 -- the new rows of a write under way are of its table's types
-abbrev pub write_fits : List ListTable → Option Staging → Bool
+abbrev pub write_fits : List Table → Option Staging → Bool
 write_fits tables None = true
 write_fits tables (Some s) = list_all (row_of_change_fits (kinds_at tables s.table)) s.changes
 
 -- a bound table allows every scan: a list takes over whatever it is asked to
-abbrev pub bound_of : ListTable → BoxTable
+abbrev pub bound_of : Table → BoxTable
 bound_of t = record {
   remote = string_bytes t.name;
   kinds = t.kinds.items;
@@ -203,12 +206,12 @@ bound_of t = record {
 }
 
 -- the table at a place, where it is marked as bound
-abbrev pub marked_bound : Bool → Option ListTable → Option BoxTable
+abbrev pub marked_bound : Bool → Option Table → Option BoxTable
 marked_bound true o = option_map bound_of o
 marked_bound false o = None
 
 -- a scan, without its rows to come
-abbrev pub scan_is : List ListTable → ListScan → Scan
+abbrev pub scan_is : List Table → ListScan → Scan
 scan_is tables s = record {
   table = s.table;
   kinds = kinds_at tables s.table;
@@ -221,12 +224,12 @@ scan_is tables s = record {
 abbrev pub mapped : {X Y : Type 0} → (X → Y) → List (ℕ × X) → finmap.FinMap nat_cmp Y
 mapped f es = finmap.from_entries (map (λ e. (e.0, f e.1)) es)
 
-abbrev pub scan_rows : List ListTable → Option ListScan → List GivenRow
+abbrev pub scan_rows : List Table → Option ListScan → List GivenRow
 scan_rows tables None = []
 scan_rows tables (Some s) = rows_to_come (spec_is s) (params_of s) (numbered 0 (rows_at tables s.table)) s.walk s.at s.more
 
 -- a list never fails by its source, so that `faults` stays 0
-abbrev pub list_ledger : List ListTable → List Bool → BTreeMap ℕ ListScan → Option ListWrite → ℕ → ℕ → Ledger
+abbrev pub list_ledger : List Table → List Bool → BTreeMap ℕ ListScan → Option ListWrite → ℕ → ℕ → Ledger
 list_ledger tables bound scans staged next pulled = record {
   tables = λ t. marked_bound (slice_index_or bound t false) (slice_get tables t);
   live = mapped (scan_is tables) scans.entries;
@@ -236,9 +239,9 @@ list_ledger tables bound scans staged next pulled = record {
   faults = 0;
 }
 
-abbrev pub list_content : List ListTable → BTreeMap ℕ ListScan → Content
+abbrev pub list_content : List Table → BTreeMap ℕ ListScan → Content
 list_content tables scans = record {
-  holdings = λ remote. Known (entry_of (map listed tables) remote);
+  holdings = λ remote. Known (entry_of (map table_listed tables) remote);
   rows = λ t. numbered 0 (rows_at tables t);
   coming = λ q. scan_rows tables (tree.get nat_cmp scans q);
 }
@@ -246,7 +249,7 @@ list_content tables scans = record {
 abbrev pub list_nature : Nature
 list_nature = record { kind = list_kind; honest = true; skips = false; promises = true }
 
-abbrev pub list_state : List ListTable → List Bool → BTreeMap ℕ ListScan → Option ListWrite → ℕ → ℕ → BoxState
+abbrev pub list_state : List Table → List Bool → BTreeMap ℕ ListScan → Option ListWrite → ℕ → ℕ → BoxState
 list_state tables bound scans staged next pulled = record {
   nature = list_nature;
   ledger = list_ledger tables bound scans staged next pulled;

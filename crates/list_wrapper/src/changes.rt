@@ -1,16 +1,16 @@
 //! The staged changes of a write to a list, and what they make of its rows.
 ghost use Rattle.std.specs.Prelude.{◌≡◌, ◌<◌, ◌≤◌, ◌+◌, ◌++◌, ◌∷◌, [], ℕ, true, false, Some, map, length, drop, option_map, slice_set, slice_index_or, IfOk, IfErr, IfSome, IsSome, OnOk, OnErr};
 ghost use Rattle.std.specs.List.{count_by, list_any};
-ghost use Rattle.std.specs.Vec.{vec_len, vec_capacity};
 ghost use Rattle.med_value.specs.declared.value.Row.{Row};
 ghost use Rattle.fdw_api.specs.Prelude.{Deletes, rows_after};
 ghost use Rattle.med_value.specs.Limits.{row_limit};
 ghost use Rattle.list_wrapper.specs.Lists.{no_line};
 ghost use Rattle.wrapper_parts.specs.Rising.{AreRising};
 ghost use Rattle.list_wrapper.specs.Scans.{numbered, keys_of};
-ghost use Rattle.list_wrapper.specs.Changes.{change_is, write_is, with_change, broken_write, as_held, is_insert, is_delete, is_yes, gone_after, row_changed, fresh_rows, stay, StandsFor};
+ghost use Rattle.list_wrapper.specs.Changes.{change_is, write_is, with_change, broken_write, as_held, is_insert, is_delete, is_yes, gone_after, row_changed, fresh_rows, StandsFor};
 
-use crate::rises::stays_rising;
+use crate::held_rows::Rows;
+use crate::rises::{rises_after, stays_rising};
 use fdw_api::interface::Fault;
 use med_value::limits::ROW_LIMIT;
 use med_value::{Cause, NoMemory, Row};
@@ -132,45 +132,23 @@ fn count_gone(gone: &[bool]) -> usize
     count
 }
 
-/// Whether a row is gone: one past the list is not.
-fn is_gone(gone: &[bool], at: usize) -> bool
-    ensures { result ≡ slice_index_or gone.now at false }
-{
-    match gone.get(at) {
-        Some(mark) => *mark,
-        None => false,
-    }
-}
-
 /// Puts a row in the place of another, if it is one of the first so many.
-fn replace_row(rows: &mut Vec<Row>, count: usize, id: u64, row: Row)
-    ensures here { id < count → count ≤ vec_len rows.old → (d : Row) → slice_index_or rows.new.items id d ≡ row }
+fn replace_row(rows: &mut Rows, count: usize, id: u64, row: Row)
+    ensures here { id < count → count ≤ length rows.old.items → (d : Row) → slice_index_or rows.new.items id d ≡ row }
     ensures others { (i : ℕ) (d : Row) → (i ≡ id → ⊥) → slice_index_or rows.new.items i d ≡ slice_index_or rows.old.items i d }
     ensures behind { drop count rows.new.items ≡ drop count rows.old.items }
-    ensures len { vec_len rows.new ≡ vec_len rows.old }
-    ensures room { vec_capacity rows.new ≡ vec_capacity rows.old }
+    ensures len { length rows.new.items ≡ length rows.old.items }
+    ensures room { rows.new.room ≡ rows.old.room }
 {
     let at = id as usize;
     if at < count && at < rows.len() {
-        rows[at] = row;
-    }
-}
-
-/// Appends a row, for which there is room.
-fn append_row(rows: &mut Vec<Row>, row: Row)
-    requires { vec_len rows.old < vec_capacity rows.old }
-    ensures items { rows.new.items ≡ rows.old.items ++ row ∷ [] }
-    ensures room { vec_capacity rows.old ≤ vec_capacity rows.new }
-{
-    match rows.push(row) {
-        Ok(()) => {}
-        Err(_) => unreachable!(),
+        rows.replace(at, row);
     }
 }
 
 /// Puts changed rows in their places and new rows behind all, for which there is room. Rows that are gone stay for now.
-fn write_rows(rows: &mut Vec<Row>, changes: Vec<ListChange>)
-    requires { vec_len rows.old + length (fresh_rows changes.items) ≤ vec_capacity rows.old }
+fn write_rows(rows: &mut Rows, changes: Vec<ListChange>)
+    requires { length (fresh_rows changes.items) ≤ rows.old.room }
     ensures changed { (i : ℕ) (d : Row) → i < length rows.old.items
         → slice_index_or rows.new.items i d ≡ row_changed i changes.items (slice_index_or rows.old.items i d) }
     ensures fresh { drop (length rows.old.items) rows.new.items ≡ fresh_rows changes.items }
@@ -179,37 +157,18 @@ fn write_rows(rows: &mut Vec<Row>, changes: Vec<ListChange>)
     let count = rows.len();
     for change in changes {
         match change {
-            ListChange::Insert(row) => append_row(rows, row),
+            ListChange::Insert(row) => rows.push(row),
             ListChange::Update(id, row) => replace_row(rows, count, id, row),
             ListChange::Delete(_) => {}
         }
     }
 }
 
-/// Takes rows that are gone out: those that stay move up.
-fn take_out(rows: &mut Vec<Row>, gone: &[bool])
-    ensures { rows.new.items ≡ stay rows.old.items gone.now }
-{
-    if gone.is_empty() {
-        return;
-    }
-    let mut kept = 0;
-    let mut at = 0;
-    while at < rows.len() {
-        if !is_gone(gone, at) {
-            rows.swap(kept, at);
-            kept += 1;
-        }
-        at += 1;
-    }
-    rows.truncate(kept);
-}
-
 /// Makes staged changes where the rows stand: those that are left in list order, and then the new ones. All that can fail comes first.
-/// The mark whether they rise comes of the changes alone.
+/// The mark whether they rise comes of the changes alone, and of the rows where any are taken out.
 fn apply_all(
     alloc: Global,
-    rows: &mut Vec<Row>,
+    rows: &mut Rows,
     rises: &mut bool,
     changes: Vec<ListChange>,
 ) -> Result<(), Fault>
@@ -225,10 +184,12 @@ fn apply_all(
     if left.saturating_add(fresh) > ROW_LIMIT {
         return Err(Fault::Refused(Cause::TooLarge));
     }
-    rows.reserve(fresh)?;
-    *rises = stays_rising(rows, *rises, &changes);
+    rows.reserve(alloc, fresh)?;
+    let told = stays_rising(rows, *rises, &changes);
     write_rows(rows, changes);
-    take_out(rows, &gone);
+    rows.take_out(&gone);
+    rows.settle();
+    *rises = rises_after(rows, &gone, told);
     Ok(())
 }
 
@@ -245,11 +206,10 @@ fn lone_deletion(count: usize, changes: &[ListChange]) -> Option<usize>
     }
 }
 
-/// Makes staged changes where the rows stand, as `apply_all` does. A deletion alone takes its row out, with no look at the others: those
-/// behind it move up as one block.
+/// Makes staged changes where the rows stand, as `apply_all` does. A deletion alone takes its row out, with no look at the others.
 pub(crate) fn apply(
     alloc: Global,
-    rows: &mut Vec<Row>,
+    rows: &mut Rows,
     rises: &mut bool,
     changes: Vec<ListChange>,
 ) -> Result<(), Fault>
@@ -261,7 +221,7 @@ pub(crate) fn apply(
 {
     match lone_deletion(rows.len(), &changes) {
         Some(at) => {
-            let _row = rows.remove(at);
+            rows.remove(at);
             Ok(())
         }
         None => apply_all(alloc, rows, rises, changes),

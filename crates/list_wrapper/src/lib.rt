@@ -2,8 +2,11 @@
 #![tactic(auto)]
 
 mod changes;
+mod held_rows;
+mod held_tables;
 pub mod list;
 mod rises;
+mod runs;
 mod scans;
 mod sorting;
 mod spans;

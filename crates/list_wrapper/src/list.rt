@@ -6,15 +6,16 @@ ghost use Rattle.std.specs.String.{string_bytes};
 ghost use Rattle.fdw_api.specs.declared.scan.Agree.TheVariants.{Exact};
 ghost use Rattle.fdw_api.specs.Prelude.{Column, column_of, kinds_of, key_form, spec2_of};
 ghost use Rattle.med_value.specs.Datum.{datum};
-ghost use Rattle.list_wrapper.specs.declared.list.ListTable.{ListTable};
+ghost use Rattle.list_wrapper.specs.declared.held_tables.Table.{Table};
 ghost use Rattle.list_wrapper.specs.Lists.{listed, entry_of, names_differ, rows_fit, IsNewList, types_match};
 ghost use Rattle.list_wrapper.specs.Changes.{write_is};
-ghost use Rattle.list_wrapper.specs.Scans.{entry_at, write_fits, Rises, rises_once, ScansFit};
+ghost use Rattle.list_wrapper.specs.Scans.{table_listed, entry_at, write_fits, Rises, rises_once, ScansFit};
 
 use crate::changes::{ListChange, ListWrite, add_change, apply};
+use crate::held_tables::{Table, tables_of};
 use crate::rises::rising_tables;
 use crate::scans::{
-    ListScan, advance, first_walk, is_rising, new_walk, restart, row_of_scan, rows_of, spoil,
+    ListScan, advance, first_walk, is_rising, new_walk, restart, row_of_scan, spoil,
 };
 use fdw_api::interface::{Counts, Fault, RowId, SourceRow, TableOption, Ticket, Wrapper};
 use fdw_api::law::{rows_are_typed, writes_are_typed};
@@ -44,10 +45,12 @@ pub struct ListTable {
 /// over the places of the keys for which it asks, found by halves, unless an order is promised. It promises each order that is wished, and
 /// each limit: a scan of which an order is promised sorts the places of the rows that it takes as it begins, and as it is begun again. A
 /// write that is kept leaves the rows that stay in list order, and then the new ones; over 1,000,000 rows it is refused by
-/// `Cause::TooLarge` (54000). Whether the first column still rises it tells by its changes. A refused call uses no ticket number up.
+/// `Cause::TooLarge` (54000). The rows are held in runs, so that an INSERT, an UPDATE or a DELETE of one row moves no more of the others
+/// than its run has. Whether the first column still rises a write tells by its changes, and by the rows that are left where it takes
+/// several out. A refused call uses no ticket number up.
 #[derive(Drop)]
 pub struct ListWrapper {
-    tables: Vec<ListTable>,
+    tables: Vec<Table>,
     bound: Vec<bool>,
     rising: Vec<bool>,
     scans: BTreeMap<u64, ListScan>,
@@ -57,8 +60,8 @@ pub struct ListWrapper {
     ghost marked: { length bound.items ≡ length tables.items },
     ghost noted: { length rising.items ≡ length tables.items },
     ghost rises: { Rises tables.items rising.items } by { rises_once tables.items rising.items },
-    ghost distinct: { IsTrue (names_differ (map listed tables.items)) },
-    ghost typed: { IsTrue (rows_fit (map listed tables.items)) },
+    ghost distinct: { IsTrue (names_differ (map table_listed tables.items)) },
+    ghost typed: { IsTrue (rows_fit (map table_listed tables.items)) },
     ghost fitting: { ScansFit tables.items scans },
     ghost typed_write: { IsTrue (write_fits tables.items (option_map write_is staged)) },
     ghost fresh: { (k : ℕ) → next ≤ k → tree.get nat_cmp scans k ≡ None },
@@ -79,6 +82,7 @@ impl ListWrapper {
         ensures numbers { IfOk result (λ w. (box_of w).nature.skips ≡ false) }
         ensures no_objection { IfOk result (λ w. (columns : List Column) → (box_of w).nature.kind.objections columns [] ≡ []) }
     {
+        let tables = tables_of(alloc, tables)?;
         let bound = vec![in alloc; false; tables.len()]?;
         let rising = rising_tables(alloc, &tables)?;
         Ok(ListWrapper {
@@ -113,14 +117,7 @@ impl ListWrapper {
         }
         let table = t.number as usize;
         let rises = is_rising(&self.rising, table);
-        let walk = first_walk(
-            alloc,
-            rows_of(&self.tables, table),
-            rises,
-            spec,
-            &order,
-            params,
-        )?;
+        let walk = first_walk(alloc, &self.tables[table].rows, rises, spec, &order, params)?;
         let spec = spec.copy(alloc)?;
         let params = copy_values(alloc, params)?;
         let scan = ListScan {
@@ -162,10 +159,10 @@ fn promised_limit(spec: &ScanSpec2) -> Option<u64>
 }
 
 /// The place of the first table of a name.
-fn find(tables: &Vec<ListTable>, name: &str) -> Option<usize>
-    ensures entry { entry_of (map listed tables.now.items) name.now ≡ entry_at tables.now.items result }
+fn find(tables: &Vec<Table>, name: &str) -> Option<usize>
+    ensures entry { entry_of (map table_listed tables.now.items) name.now ≡ entry_at tables.now.items result }
     ensures within { IfSome result (λ at. at < length tables.now.items) }
-    ensures named { IfSome result (λ at. (x : ListTable)
+    ensures named { IfSome result (λ at. (x : Table)
         × (slice_get tables.now.items at ≡ Some x) × (bytes_eq (string_bytes x.name) name.now ≡ true)) }
 {
     let mut at = 0;

@@ -1,5 +1,5 @@
 //! Live scans of lists, and the rows that they give.
-ghost use Rattle.std.specs.Prelude.{◌≡◌, max, true, false, None, map, option_map, slice_index_or, IfOk, IfSome, IsSome, Some};
+ghost use Rattle.std.specs.Prelude.{◌≡◌, max, [], true, false, None, map, option_map, slice_index_or, IfOk, IfSome, IfNone, IsSome, Some};
 ghost use Rattle.std.specs.Ordering.{nat_cmp};
 ghost use Rattle.std.specs.BTreeMap as tree;
 ghost use Rattle.med_value.specs.Datum.{datum, tuple, cell};
@@ -9,7 +9,8 @@ ghost use Rattle.wrapper_parts.specs.Indexes.{IsIndexFrom};
 ghost use Rattle.wrapper_parts.specs.Rising.{AreRising};
 ghost use Rattle.list_wrapper.specs.Scans.{NextIs, NextOf, left_in_turn, left_by_keys, Arranges, Turns, Spans, Rises, is_spent, StandsAfter, Moves, ScanFits, spec_is, params_of, index_of, newer, index_in, one_less, numbered, keys_of, rows_at};
 
-use crate::list::ListTable;
+use crate::held_rows::Rows;
+use crate::held_tables::Table;
 use crate::sorting::sorted_places;
 use crate::spans::{Span, span_of};
 use fdw_api::interface::{RowId, SourceRow};
@@ -137,24 +138,24 @@ fn cell_of(alloc: Global, row: &Row, column: usize) -> Result<Value, NoMemory>
 }
 
 /// An index of a column of a list.
-fn index_of_column(alloc: Global, rows: &[Row], column: usize) -> Result<PlaceIndex, NoMemory>
-    ensures { IfOk result (λ x. IsIndexFrom 0 (column_cells column (numbered 0 rows.now)) x) }
+fn index_of_column(alloc: Global, rows: &Rows, column: usize) -> Result<PlaceIndex, NoMemory>
+    ensures { IfOk result (λ x. IsIndexFrom 0 (column_cells column (numbered 0 rows.now.items)) x) }
 {
     let mut index = PlaceIndex::new(alloc, rows.len())?;
     let mut at = rows.len();
     while at > 0 {
         at -= 1;
-        index.add(at, cell_of(alloc, &rows[at], column)?)?;
+        index.add(at, cell_of(alloc, rows.at(at), column)?)?;
     }
     Ok(index)
 }
 
 /// The first place from a place on at which there may be a row that a scan takes.
-fn place_from(_rows: &[Row], scan: &ListScan, found: Option<Sought>, at: usize) -> usize
+fn place_from(_rows: &Rows, scan: &ListScan, found: Option<Sought>, at: usize) -> usize
     requires found { option_map form_of found ≡ sought (map restriction_form scan.now.spec.offered.items) }
-    requires serves { Serves (spec_is scan.now) (numbered 0 _rows.now) (index_of scan.now.walk) }
-    requires stands { Stands (spec_is scan.now) (params_of scan.now) (numbered 0 _rows.now) at (index_of scan.now.walk) }
-    ensures { Moves (spec_is scan.now) (params_of scan.now) (numbered 0 _rows.now) (index_of scan.now.walk) at result }
+    requires serves { Serves (spec_is scan.now) (numbered 0 _rows.now.items) (index_of scan.now.walk) }
+    requires stands { Stands (spec_is scan.now) (params_of scan.now) (numbered 0 _rows.now.items) at (index_of scan.now.walk) }
+    ensures { Moves (spec_is scan.now) (params_of scan.now) (numbered 0 _rows.now.items) (index_of scan.now.walk) at result }
 {
     match (&scan.walk, found) {
         (Walk::ByIndex(index), Some(found)) => {
@@ -166,17 +167,18 @@ fn place_from(_rows: &[Row], scan: &ListScan, found: Option<Sought>, at: usize) 
 }
 
 /// The next row of a scan that goes over a list in its order.
-fn next_in_turn(alloc: Global, rows: &[Row], scan: &ListScan) -> Result<Option<Step>, NoMemory>
-    requires { ScanFits rows.now scan.now }
-    ensures next { IfOk result (NextOf (spec_is scan.now) (left_in_turn (spec_is scan.now) (params_of scan.now) (numbered 0 rows.now))
+fn next_in_turn(alloc: Global, rows: &Rows, scan: &ListScan) -> Result<Option<Step>, NoMemory>
+    requires { ScanFits rows.now.items scan.now }
+    ensures next { IfOk result (NextOf (spec_is scan.now) (left_in_turn (spec_is scan.now) (params_of scan.now) (numbered 0 rows.now.items))
         scan.now.at None) }
-    ensures on { IfOk result (StandsAfter rows.now scan.now) }
+    ensures on { IfOk result (StandsAfter rows.now.items scan.now) }
 {
     let found = sought_in(&scan.spec.offered);
     let mut at = place_from(rows, scan, found, scan.at);
     while at < rows.len() {
-        if takes(&scan.spec, found, &scan.params, &rows[at]) {
-            let cells = scan.spec.show(alloc, &rows[at])?;
+        let next = rows.at(at);
+        if takes(&scan.spec, found, &scan.params, next) {
+            let cells = scan.spec.show(alloc, next)?;
             let row = SourceRow {
                 id: RowId { number: at as u64 },
                 cells,
@@ -198,18 +200,18 @@ fn later_of(at: usize, other: usize) -> usize
 /// The next row of a scan that goes over these places of a list, in its order.
 fn next_within(
     alloc: Global,
-    rows: &[Row],
+    rows: &Rows,
     scan: &ListScan,
     span: Span,
 ) -> Result<Option<Step>, NoMemory>
-    requires { Spans (spec_is scan.now) (params_of scan.now) (numbered 0 rows.now) span.first span.end }
-    ensures { IfOk result (NextOf (spec_is scan.now) (left_in_turn (spec_is scan.now) (params_of scan.now) (numbered 0 rows.now))
+    requires { Spans (spec_is scan.now) (params_of scan.now) (numbered 0 rows.now.items) span.first span.end }
+    ensures { IfOk result (NextOf (spec_is scan.now) (left_in_turn (spec_is scan.now) (params_of scan.now) (numbered 0 rows.now.items))
         scan.now.at None) }
 {
     let found = sought_in(&scan.spec.offered);
     let mut at = later_of(scan.at, span.first);
     while at < span.end {
-        let here = &rows[at];
+        let here = rows.at(at);
         if takes(&scan.spec, found, &scan.params, here) {
             let cells = scan.spec.show(alloc, here)?;
             let id = RowId { number: at as u64 };
@@ -225,17 +227,17 @@ fn next_within(
 /// The next row of a scan that goes over these places.
 fn next_by_keys(
     alloc: Global,
-    rows: &[Row],
+    rows: &Rows,
     scan: &ListScan,
     places: &[usize],
 ) -> Result<Option<Step>, NoMemory>
-    ensures { IfOk result (NextOf (spec_is scan.now) (left_by_keys places.now (numbered 0 rows.now)) scan.now.at None) }
+    ensures { IfOk result (NextOf (spec_is scan.now) (left_by_keys places.now (numbered 0 rows.now.items)) scan.now.at None) }
 {
     let mut at = scan.at;
     while at < places.len() {
         let place = places[at];
         if place < rows.len() {
-            let cells = scan.spec.show(alloc, &rows[place])?;
+            let cells = scan.spec.show(alloc, rows.at(place))?;
             let row = SourceRow {
                 id: RowId {
                     number: place as u64,
@@ -250,11 +252,11 @@ fn next_by_keys(
 }
 
 /// The next row of a scan, from its place on.
-fn next_row(alloc: Global, rows: &[Row], scan: &ListScan) -> Result<Option<Step>, NoMemory>
-    requires { ScanFits rows.now scan.now }
-    ensures next { IfOk result (NextIs (spec_is scan.now) (params_of scan.now) (numbered 0 rows.now) scan.now.walk
+fn next_row(alloc: Global, rows: &Rows, scan: &ListScan) -> Result<Option<Step>, NoMemory>
+    requires { ScanFits rows.now.items scan.now }
+    ensures next { IfOk result (NextIs (spec_is scan.now) (params_of scan.now) (numbered 0 rows.now.items) scan.now.walk
         scan.now.at scan.now.more) }
-    ensures on { IfOk result (StandsAfter rows.now scan.now) }
+    ensures on { IfOk result (StandsAfter rows.now.items scan.now) }
 {
     if is_spent(scan.more) {
         return Ok(None);
@@ -278,20 +280,21 @@ fn live_scan(scans: &BTreeMap<u64, ListScan>, number: u64) -> &ListScan
     }
 }
 
-/// The rows of the table at a place, none where there is no table.
-pub(crate) fn rows_of(tables: &Vec<ListTable>, at: usize) -> &[Row]
-    ensures { result.now ≡ rows_at tables.now.items at }
+/// The rows of the table at a place, if there is a table.
+fn rows_of(tables: &Vec<Table>, at: usize) -> Option<&Rows>
+    ensures some { IfSome result (λ rows. rows.now.items ≡ rows_at tables.now.items at) }
+    ensures none { IfNone result (rows_at tables.now.items at ≡ []) }
 {
     match tables.get(at) {
-        Some(table) => &table.rows,
-        None => &[],
+        Some(table) => Some(&table.rows),
+        None => None,
     }
 }
 
 /// The next row of a live scan.
 pub(crate) fn row_of_scan(
     alloc: Global,
-    tables: &Vec<ListTable>,
+    tables: &Vec<Table>,
     scans: &BTreeMap<u64, ListScan>,
     number: u64,
 ) -> Result<Option<Step>, NoMemory>
@@ -303,7 +306,10 @@ pub(crate) fn row_of_scan(
         (λ s. StandsAfter (rows_at tables.now.items s.table) s next)) }
 {
     let scan = live_scan(scans, number);
-    next_row(alloc, rows_of(tables, scan.table), scan)
+    match rows_of(tables, scan.table) {
+        Some(rows) => next_row(alloc, rows, scan),
+        None => Ok(None),
+    }
 }
 
 /// Whether the table at a place is marked as rising.
@@ -317,9 +323,9 @@ pub(crate) fn is_rising(rising: &[bool], at: usize) -> bool
 }
 
 /// How a scan that needs no index goes over a list in its order: where the first column rises, over the places of its keys alone.
-fn turn_walk(rows: &[Row], rises: bool, spec: &ScanSpec, params: &[Value]) -> Walk
-    requires { rises ≡ true → AreRising (keys_of rows.now) }
-    ensures { Turns (spec_of spec.now) (map datum params.now) (numbered 0 rows.now) result }
+fn turn_walk(rows: &Rows, rises: bool, spec: &ScanSpec, params: &[Value]) -> Walk
+    requires { rises ≡ true → AreRising (keys_of rows.now.items) }
+    ensures { Turns (spec_of spec.now) (map datum params.now) (numbered 0 rows.now.items) result }
 {
     if !rises || spec.offered.is_empty() {
         return Walk::InTurn;
@@ -330,15 +336,15 @@ fn turn_walk(rows: &[Row], rises: bool, spec: &ScanSpec, params: &[Value]) -> Wa
 /// How a scan that begins goes over a list.
 pub(crate) fn first_walk(
     alloc: Global,
-    rows: &[Row],
+    rows: &Rows,
     rises: bool,
     spec: &ScanSpec,
     order: &[OrderKey],
     params: &[Value],
 ) -> Result<Walk, NoMemory>
-    requires { rises ≡ true → AreRising (keys_of rows.now) }
+    requires { rises ≡ true → AreRising (keys_of rows.now.items) }
     ensures arranges { IfOk result (Arranges (record (spec_of spec.now) { order = map key_form order.now }) (map datum params.now)
-        (numbered 0 rows.now)) }
+        (numbered 0 rows.now.items)) }
     ensures no_index { IfOk result (λ walk. index_of walk ≡ None) }
 {
     if order.is_empty() {
@@ -350,7 +356,7 @@ pub(crate) fn first_walk(
 /// How a live scan goes over its table once it is begun again by these parameters, where it is not to go on as before.
 pub(crate) fn new_walk(
     alloc: Global,
-    tables: &Vec<ListTable>,
+    tables: &Vec<Table>,
     rising: &[bool],
     scans: &BTreeMap<u64, ListScan>,
     number: u64,
@@ -364,7 +370,9 @@ pub(crate) fn new_walk(
         (λ s. Arranges (spec_is s) (map datum params.now) (numbered 0 (rows_at tables.now.items s.table)) (newer walk s.walk))) }
 {
     let scan = live_scan(scans, number);
-    let rows = rows_of(tables, scan.table);
+    let Some(rows) = rows_of(tables, scan.table) else {
+        return Ok(Some(Walk::InTurn));
+    };
     let rises = is_rising(rising, scan.table);
     if !scan.order.is_empty() {
         let walk = first_walk(alloc, rows, rises, &scan.spec, &scan.order, params)?;

@@ -6,8 +6,9 @@ ghost use Rattle.wrapper_parts.specs.Rising.{AreRising};
 ghost use Rattle.wrapper_parts.specs.Halves.{is_under, Parts, IsBeyond, IsAround};
 ghost use Rattle.list_wrapper.specs.Scans.{numbered, keys_of, Spans};
 
+use crate::held_rows::Rows;
 use fdw_api::scan::ScanSpec;
-use med_value::{Row, Value};
+use med_value::Value;
 use wrapper_parts::{KeyRange, range_around, value_at};
 
 /// Places of a table, from the first to the end, which is none of them.
@@ -28,18 +29,18 @@ fn is_under(key: i64, value: &Value) -> bool
 }
 
 // Whether the key at a place is below this one.
-fn key_under(rows: &[Row], at: usize, key: i64) -> bool
-    requires { at < length rows.now }
-    ensures { result ≡ is_under key (cell (keys_of rows.now) at) }
+fn key_under(rows: &Rows, at: usize, key: i64) -> bool
+    requires { at < length rows.now.items }
+    ensures { result ≡ is_under key (cell (keys_of rows.now.items) at) }
 {
     let missing = Value::Null;
-    is_under(key, value_at(&rows[at].cells, 0, &missing))
+    is_under(key, value_at(&rows.at(at).cells, 0, &missing))
 }
 
 /// The first place of a key that is at least this one, found by halves, and the number of rows where there is none.
-fn first_at_least(rows: &[Row], key: i64) -> usize
-    requires { AreRising (keys_of rows.now) }
-    ensures { Parts (keys_of rows.now) key result }
+fn first_at_least(rows: &Rows, key: i64) -> usize
+    requires { AreRising (keys_of rows.now.items) }
+    ensures { Parts (keys_of rows.now.items) key result }
 {
     let mut first = 0;
     let mut end = rows.len();
@@ -55,9 +56,9 @@ fn first_at_least(rows: &[Row], key: i64) -> usize
 }
 
 /// The first place of a key that is over this one, and the number of rows where there is none.
-fn first_over(rows: &[Row], key: i64) -> usize
-    requires { AreRising (keys_of rows.now) }
-    ensures { IsBeyond (keys_of rows.now) key result }
+fn first_over(rows: &Rows, key: i64) -> usize
+    requires { AreRising (keys_of rows.now.items) }
+    ensures { IsBeyond (keys_of rows.now.items) key result }
 {
     if key == i64::MAX {
         return rows.len();
@@ -66,9 +67,9 @@ fn first_over(rows: &[Row], key: i64) -> usize
 }
 
 /// The places of the keys of a range.
-fn places_of(rows: &[Row], range: KeyRange) -> Span
-    requires { AreRising (keys_of rows.now) }
-    ensures { IsAround (keys_of rows.now) range result.first result.end }
+fn places_of(rows: &Rows, range: KeyRange) -> Span
+    requires { AreRising (keys_of rows.now.items) }
+    ensures { IsAround (keys_of rows.now.items) range result.first result.end }
 {
     if !range.open {
         return Span { first: 0, end: 0 };
@@ -79,9 +80,9 @@ fn places_of(rows: &[Row], range: KeyRange) -> Span
 }
 
 /// The places over which a scan has to go of rows whose first cells rise: those of the keys of the range around it.
-pub(crate) fn span_of(rows: &[Row], spec: &ScanSpec, params: &[Value]) -> Span
-    requires { AreRising (keys_of rows.now) }
-    ensures { Spans (spec_of spec.now) (map datum params.now) (numbered 0 rows.now) result.first result.end }
+pub(crate) fn span_of(rows: &Rows, spec: &ScanSpec, params: &[Value]) -> Span
+    requires { AreRising (keys_of rows.now.items) }
+    ensures { Spans (spec_of spec.now) (map datum params.now) (numbered 0 rows.now.items) result.first result.end }
 {
     let range = range_around(&spec.offered, &spec.agreement.answers, params);
     places_of(rows, range)

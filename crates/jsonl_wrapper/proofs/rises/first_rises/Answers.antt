@@ -1,8 +1,9 @@
 use Rattle.std.proofs.Common.{◌≤◌, ◌≤ℤ◌, length, to_z, w64, FitsSigned, arith}
 use Rattle.std.proofs.lemmas.Int.{ints, to_z-of_z}
+use Rattle.wrapper_parts.proofs.KeptRise.{up_to_more, up_to_all}
 use Rattle.jsonl_wrapper.specs.Tables.{readers_in, lines_in}
 use Rattle.jsonl_wrapper.specs.Rises.{first_column}
-use Rattle.jsonl_wrapper.proofs.RisingKeys.{keys_count, up_to_more, up_to_all}
+use Rattle.jsonl_wrapper.proofs.RisingKeys.{keys_count}
 use Rattle.jsonl_wrapper.proofs.rises.first_rises.Goals as goal
 
 pub loop-at-preserved : goal.loop-at-preserved

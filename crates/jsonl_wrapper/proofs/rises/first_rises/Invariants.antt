@@ -1,5 +1,6 @@
+use Rattle.wrapper_parts.specs.KeepingRise.{RiseUpTo}
 use Rattle.jsonl_wrapper.specs.Tables.{readers_in, lines_in}
-use Rattle.jsonl_wrapper.specs.Rises.{RiseUpTo, first_column}
+use Rattle.jsonl_wrapper.specs.Rises.{first_column}
 use Rattle.jsonl_wrapper.proofs.rises.first_rises.Given as goal
 
 abbrev pub invariant-loop-at : goal.invariant-loop-at

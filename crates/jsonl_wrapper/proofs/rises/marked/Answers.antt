@@ -1,4 +1,3 @@
-use Rattle.std.proofs.Common.{rules}
 use Rattle.jsonl_wrapper.proofs.RisingTold.{rise_told}
 use Rattle.jsonl_wrapper.proofs.rises.marked.Goals as goal
 

@@ -4,9 +4,10 @@ use Rattle.std.proofs.lemmas.List.{nil_from_length}
 use Rattle.med_value.specs.Datum.{Whole}
 use Rattle.wrapper_parts.specs.Staged.{change_is}
 use Rattle.wrapper_parts.specs.Rising.{AreRising}
+use Rattle.wrapper_parts.specs.KeepingRise.{KeepRising, RiseUpTo}
 use Rattle.jsonl_wrapper.specs.Contents.{json_line}
 use Rattle.jsonl_wrapper.specs.Tables.{readers_in, lines_in}
-use Rattle.jsonl_wrapper.specs.Rises.{KeepRising, RiseUpTo, first_column}
+use Rattle.jsonl_wrapper.specs.Rises.{first_column}
 use Rattle.jsonl_wrapper.proofs.RisingTold.{rise_known}
 use Rattle.jsonl_wrapper.proofs.RisingKeys.{stays}
 use Rattle.jsonl_wrapper.proofs.rises.stays_rising.Goals as goal

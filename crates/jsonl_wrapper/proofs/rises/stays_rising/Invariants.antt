@@ -1,8 +1,9 @@
 use Rattle.std.proofs.Common.{map, length}
 use Rattle.med_value.specs.Datum.{Whole}
 use Rattle.wrapper_parts.specs.Staged.{change_is}
+use Rattle.wrapper_parts.specs.KeepingRise.{KeepRising}
 use Rattle.jsonl_wrapper.specs.Tables.{readers_in, lines_in}
-use Rattle.jsonl_wrapper.specs.Rises.{KeepRising, first_column}
+use Rattle.jsonl_wrapper.specs.Rises.{first_column}
 use Rattle.jsonl_wrapper.proofs.rises.stays_rising.Given as goal
 
 abbrev pub invariant-loop-change : goal.invariant-loop-change

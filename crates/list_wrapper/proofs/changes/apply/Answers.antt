@@ -14,7 +14,7 @@ returns-in-Some-clause-ok c =
     let told : c.deref.result.now ≡ cs = search rules in
     let lt : at < length rows = omega arith in
     let only : map change_is cs ≡ Deletes at ∷ [] = sym (ap (map change_is) told) ∙ lone.2 in
-    one_taken_out rows c.remove-row.new.self.items (map change_is cs) at lt c.remove-row.ensures.by_index.2 only
+    one_taken_out rows c.remove.new.self.items (map change_is cs) at lt c.remove.ensures only
 
 pub returns-in-Some-clause-rises : goal.returns-in-Some-clause-rises
-returns-in-Some-clause-rises c = λ before mark. one_out_rises c.args.rows.now.items c.remove-row.new.self.items c.in-Some.at c.remove-row.ensures.by_index.2 (before mark)
+returns-in-Some-clause-rises c = λ before mark. one_out_rises c.args.rows.now.items c.remove.new.self.items c.in-Some.at c.remove.ensures (before mark)

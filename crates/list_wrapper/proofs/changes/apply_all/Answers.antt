@@ -1,4 +1,4 @@
-use Rattle.std.proofs.Common.{◌≡◌, ◌+◌, ◌-◌, length, map, refl, arith, rules}
+use Rattle.std.proofs.Common.{◌≡◌, ◌∙◌, ◌+◌, ◌-◌, length, map, refl, arith, rules}
 use Rattle.fdw_api.specs.Writes.{rows_after}
 use Rattle.list_wrapper.specs.Lists.{no_line}
 use Rattle.list_wrapper.specs.Scans.{numbered}
@@ -30,7 +30,7 @@ write_rows-requires c =
 pub returns-clause-ok : goal.returns-clause-ok
 returns-clause-ok c =
     let n : c.len.result ≡ length c.args.rows.now.items = search rules in
-    all_applied c.args.rows.now.items c.reserve.new.self.items c.write_rows.new.rows.items c.take_out.new.rows.items c.in_ok-gone.gone.items c.deref-6.result.now c.args.changes.items c.deref.result.now (search rules) (search rules) (search rules) (search rules) (λ i lt. c.in_ok-gone.ensures.each i (omega arith)) c.write_rows.ensures.changed c.write_rows.ensures.fresh c.write_rows.ensures.longer c.take_out.ensures
+    all_applied c.args.rows.now.items c.reserve.new.self.items c.write_rows.new.rows.items c.settle.new.self.items c.in_ok-gone.gone.items c.deref-5.result.now c.args.changes.items c.deref.result.now (search rules) (search rules) (search rules) (search rules) (λ i lt. c.in_ok-gone.ensures.each i (omega arith)) c.write_rows.ensures.changed c.write_rows.ensures.fresh c.write_rows.ensures.longer (c.settle.ensures ∙ c.take_out.ensures)
 
 pub returns-clause-few : goal.returns-clause-few
 returns-clause-few c =
@@ -38,15 +38,15 @@ returns-clause-few c =
     let cs = c.args.changes.items in
     let n : c.len.result ≡ length rows = search rules in
     let n2 : c.len-2.result ≡ length rows = search rules in
-    let w : map as_held c.take_out.new.rows.items ≡ rows_after no_line (numbered 0 rows) (map change_is cs) =
-    all_applied rows c.reserve.new.self.items c.write_rows.new.rows.items c.take_out.new.rows.items c.in_ok-gone.gone.items c.deref-6.result.now cs c.deref.result.now (search rules) (search rules) (search rules) (search rules) (λ i lt. c.in_ok-gone.ensures.each i (omega arith)) c.write_rows.ensures.changed c.write_rows.ensures.fresh c.write_rows.ensures.longer c.take_out.ensures in
+    let w : map as_held c.settle.new.self.items ≡ rows_after no_line (numbered 0 rows) (map change_is cs) =
+    all_applied rows c.reserve.new.self.items c.write_rows.new.rows.items c.settle.new.self.items c.in_ok-gone.gone.items c.deref-5.result.now cs c.deref.result.now (search rules) (search rules) (search rules) (search rules) (λ i lt. c.in_ok-gone.ensures.each i (omega arith)) c.write_rows.ensures.changed c.write_rows.ensures.fresh c.write_rows.ensures.longer (c.settle.ensures ∙ c.take_out.ensures) in
     let l : length (rows_after no_line (numbered 0 rows) (map change_is cs)) ≡ (length rows - c.count_gone.result) + c.count_fresh-fresh.result =
     counted rows c.in_ok-gone.gone.items c.deref-3.result.now cs c.deref.result.now c.deref-2.result.now c.count_gone.result c.count_fresh-fresh.result (search rules) (search rules) (search rules) (search rules) (λ i lt. c.in_ok-gone.ensures.each i (omega arith)) c.count_gone.ensures c.count_fresh-fresh.ensures in
-    let s = same_length c.take_out.new.rows.items (rows_after no_line (numbered 0 rows) (map change_is cs)) w in
+    let s = same_length c.settle.new.self.items (rows_after no_line (numbered 0 rows) (map change_is cs)) w in
     omega arith
 
 pub returns-clause-rises : goal.returns-clause-rises
-returns-clause-rises c =
-    applied_rises c.args.rows.now.items c.reserve.new.self.items c.deref-4.result.now c.write_rows.new.rows.items c.take_out.new.rows.items c.deref-6.result.now
-    c.args.changes.items c.deref-5.result.now c.args.rises.now c.stays_rising.result (search rules) (search rules) (search rules)
-    c.write_rows.ensures.changed c.write_rows.ensures.fresh c.write_rows.ensures.longer c.take_out.ensures c.stays_rising.ensures
+returns-clause-rises c = λ before. c.rises_after.ensures (λ told.
+    applied_rises c.args.rows.now.items c.reserve.new.self.items c.reserve.new.self.items c.write_rows.new.rows.items c.settle.new.self.items c.deref-5.result.now
+    c.args.changes.items c.deref-4.result.now c.args.rises.now c.stays_rising-told.result (search rules) (search rules) (search rules)
+    c.write_rows.ensures.changed c.write_rows.ensures.fresh c.write_rows.ensures.longer (c.settle.ensures ∙ c.take_out.ensures) c.stays_rising-told.ensures before told)

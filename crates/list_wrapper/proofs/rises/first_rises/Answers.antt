@@ -7,19 +7,20 @@ use Rattle.list_wrapper.specs.Scans.{keys_of}
 use Rattle.list_wrapper.proofs.RisingLists.{key_read, key_is, keys_length}
 use Rattle.list_wrapper.proofs.rises.first_rises.Goals as goal
 
-pub loop-row-preserved : goal.loop-row-preserved
-loop-row-preserved c =
-    let rows = c.args.rows.now in
-    let at = c.loop-row.row-index in
+pub loop-at-preserved : goal.loop-at-preserved
+loop-at-preserved c =
+    let rows = c.args.rows.now.items in
+    let at = c.loop-at.at in
     let key = c.in-Some.key in
-    let row = c.row-item.result in
+    let row = c.at.result.now in
     let found = c.in-Some.ensures in
-    let is = key_read at rows row c.loop-row-test.true ∙ ap (λ (r : Row). cell (tuple r) 0) (sym c.row-item.is) in
-    rw (to_z-of_z w64 key found.0.fits) (up_to_more (keys_of rows) _ key at c.loop-row.invariant (key_is (cell (tuple row) 0) (cell (keys_of rows) at) key is found.0) found.1)
+    let is = key_read at rows row (let n = c.len.ensures in let t = c.loop-at-test.true in omega arith) ∙ ap (λ (r : Row). cell (tuple r) 0) (sym c.at.ensures) in
+    rw (to_z-of_z w64 key found.0.fits) (up_to_more (keys_of rows) _ key at c.loop-at.invariant (key_is (cell (tuple row) 0) (cell (keys_of rows) at) key is found.0) found.1)
 
 pub returns : goal.returns
 returns c =
-    let many = keys_length c.args.rows.now in
-    let test = c.loop-row-test.false in
-    let all : length (keys_of c.args.rows.now) ≤ c.loop-row.row-index = omega arith in
-    λ told. up_to_all (keys_of c.args.rows.now) _ c.loop-row.row-index c.loop-row.invariant all
+    let many = keys_length c.args.rows.now.items in
+    let test = c.loop-at-test.false in
+    let count = c.len.ensures in
+    let all : length (keys_of c.args.rows.now.items) ≤ c.loop-at.at = omega arith in
+    λ told. up_to_all (keys_of c.args.rows.now.items) _ c.loop-at.at c.loop-at.invariant all

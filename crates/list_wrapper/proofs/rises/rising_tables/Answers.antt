@@ -16,7 +16,7 @@ loop-at-preserved c =
     let many : length marks ≡ at = c.loop-at.invariant.marked in
     let lt : at < length tables = search rules in
     let dx = slice_get_read tables (length tables) at x refl lt c.index.ensures in
-    let rows : rows_at tables (length marks) ≡ c.deref.result.now = ap (rows_at tables) many ∙ ap listed_rows dx ∙ sym c.deref.ensures.value in
+    let rows : rows_at tables (length marks) ≡ x.rows.items = ap (rows_at tables) many ∙ ap listed_rows dx in
     let here : MarkedSo b (rows_at tables (length marks)) = λ e. subst (λ (l : List Row). AreRising (keys_of l)) (sym rows) (c.first_rises.ensures e) in
     let items : c.push.new.self.items ≡ marks ++ b ∷ [] = search rules in
     record {

@@ -10,7 +10,7 @@ use Rattle.list_wrapper.proofs.rises.stays_rising.Goals as goal
 
 pub returns : goal.returns
 returns c = λ told rises.
-    let keys = keys_of c.args.rows.now in
+    let keys = keys_of c.args.rows.now.items in
     let cs = map change_is c.args.changes.now in
     let known : c.args.rises ≡ true = search rules in
     let rising : AreRising keys = rises known in

@@ -6,8 +6,8 @@ use Rattle.list_wrapper.proofs.scans.index_of_column.Given as goal
 
 abbrev pub invariant-loop-at : goal.invariant-loop-at
 invariant-loop-at l = record {
-  within : l.at ≤ length l.rows;
-  is : IsIndexFrom l.at (column_cells l.column (drop l.at (numbered 0 l.rows))) l.index;
+  within : l.at ≤ length l.rows.items;
+  is : IsIndexFrom l.at (column_cells l.column (drop l.at (numbered 0 l.rows.items))) l.index;
 }
 
 abbrev pub decreases-loop-at : goal.decreases-loop-at

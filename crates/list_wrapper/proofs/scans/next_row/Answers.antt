@@ -9,7 +9,7 @@ use Rattle.list_wrapper.proofs.scans.next_row.Goals as goal
 pub returns-in-InTurn-clause-next : goal.returns-in-InTurn-clause-next
 returns-in-InTurn-clause-next c =
     let s = c.args.scan.now in
-    let rows = numbered 0 c.args.rows.now in
+    let rows = numbered 0 c.args.rows.now.items in
     let goes : s.walk ≡ InTurn = search rules in
     let more : is_spent s.more ≡ false = search rules in
     IfOk-weaker c.next_in_turn.result _ _
@@ -20,7 +20,7 @@ returns-in-InTurn-clause-next c =
 pub returns-in-ByIndex-clause-next : goal.returns-in-ByIndex-clause-next
 returns-in-ByIndex-clause-next c =
     let s = c.args.scan.now in
-    let rows = numbered 0 c.args.rows.now in
+    let rows = numbered 0 c.args.rows.now.items in
     let goes : s.walk ≡ ByIndex c.in-ByIndex.field-0 = search rules in
     let more : is_spent s.more ≡ false = search rules in
     IfOk-weaker c.next_in_turn-in-ByIndex.result _ _
@@ -31,7 +31,7 @@ returns-in-ByIndex-clause-next c =
 pub returns-in-ByKeys-clause-next : goal.returns-in-ByKeys-clause-next
 returns-in-ByKeys-clause-next c =
     let s = c.args.scan.now in
-    let rows = numbered 0 c.args.rows.now in
+    let rows = numbered 0 c.args.rows.now.items in
     let goes : s.walk ≡ ByKeys c.in-ByKeys.places = search rules in
     let more : is_spent s.more ≡ false = search rules in
     IfOk-weaker c.next_by_keys.result _ _
@@ -47,7 +47,7 @@ next_within-requires c =
 pub returns-in-Within-clause-next : goal.returns-in-Within-clause-next
 returns-in-Within-clause-next c =
     let s = c.args.scan.now in
-    let rows = numbered 0 c.args.rows.now in
+    let rows = numbered 0 c.args.rows.now.items in
     let goes : s.walk ≡ Within c.in-Within.span = search rules in
     let more : is_spent s.more ≡ false = search rules in
     IfOk-weaker c.next_within.result _ _

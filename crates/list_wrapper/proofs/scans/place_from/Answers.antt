@@ -9,7 +9,7 @@ use Rattle.list_wrapper.proofs.scans.place_from.Goals as goal
 
 pub returns-in-ByIndex-Some : goal.returns-in-ByIndex-Some
 returns-in-ByIndex-Some c =
-    let rows = numbered 0 c.args._rows.now in
+    let rows = numbered 0 c.args._rows.now.items in
     let scan = c.args.scan.now in
     let spec = spec_is scan in
     let params = params_of scan in

@@ -9,7 +9,7 @@ use Rattle.list_wrapper.proofs.spans.first_at_least.Goals as goal
 
 pub loop-first-preserved-then-key_under : goal.loop-first-preserved-then-key_under
 loop-first-preserved-then-key_under c =
-    let rows = c.args.rows.now in
+    let rows = c.args.rows.now.items in
     let cells = keys_of rows in
     let key = to_z w64 (of_z w64 c.args.key) in
     let many = keys_length rows in
@@ -27,7 +27,7 @@ loop-first-preserved-then-key_under c =
 
 pub loop-first-preserved : goal.loop-first-preserved
 loop-first-preserved c =
-    let rows = c.args.rows.now in
+    let rows = c.args.rows.now.items in
     let cells = keys_of rows in
     let key = to_z w64 (of_z w64 c.args.key) in
     let many = keys_length rows in
@@ -45,7 +45,7 @@ loop-first-preserved c =
 
 pub returns : goal.returns
 returns c =
-    let many = keys_length c.args.rows.now in
+    let many = keys_length c.args.rows.now.items in
     let test = c.loop-first-test.false in
     let ordered = c.loop-first.invariant.ordered in
     let within = c.loop-first.invariant.within in

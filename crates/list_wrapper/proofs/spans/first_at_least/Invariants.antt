@@ -7,9 +7,9 @@ use Rattle.list_wrapper.proofs.spans.first_at_least.Given as goal
 abbrev pub invariant-loop-first : goal.invariant-loop-first
 invariant-loop-first l = record {
   ordered : l.first ≤ l.end;
-  within : l.end ≤ length l.rows;
-  before : (k : ℕ) → k < l.first → is_under l.key (cell (keys_of l.rows) k) ≡ true;
-  behind : (k : ℕ) → l.end ≤ k → k < length l.rows → is_under l.key (cell (keys_of l.rows) k) ≡ false;
+  within : l.end ≤ length l.rows.items;
+  before : (k : ℕ) → k < l.first → is_under l.key (cell (keys_of l.rows.items) k) ≡ true;
+  behind : (k : ℕ) → l.end ≤ k → k < length l.rows.items → is_under l.key (cell (keys_of l.rows.items) k) ≡ false;
 }
 
 abbrev pub decreases-loop-first : goal.decreases-loop-first

@@ -6,7 +6,7 @@ use Rattle.list_wrapper.proofs.spans.places_of.Goals as goal
 
 pub returns : goal.returns
 returns c =
-    let cells = keys_of c.args.rows.now in
+    let cells = keys_of c.args.rows.now.items in
     let low : FitsSigned w64 c.args.range.low = search rules in
     let high : FitsSigned w64 c.args.range.high = search rules in
     around_by cells c.args.range c.first_at_least-first.result c.first_over-end.result
@@ -15,4 +15,4 @@ returns c =
 pub returns-then-not-range : goal.returns-then-not-range
 returns-then-not-range c =
     let closed : c.args.range.open ≡ false = search rules in
-    around_none (keys_of c.args.rows.now) c.args.range closed
+    around_none (keys_of c.args.rows.now.items) c.args.range closed

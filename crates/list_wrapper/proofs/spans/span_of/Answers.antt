@@ -13,7 +13,7 @@ returns c =
     let params = map datum c.args.params.now in
     let range = c.range_around-range.result in
     let admits : Admits spec params range = λ k rest fits e. c.range_around-range.ensures k rest fits (rw (c.deref.ensures.value, c.deref-2.ensures.value) e) in
-    let rows = c.args.rows.now in
+    let rows = c.args.rows.now.items in
     let first = c.places_of.result.first in
     let end = c.places_of.result.end in
     spans_around spec params (numbered 0 rows) range first end

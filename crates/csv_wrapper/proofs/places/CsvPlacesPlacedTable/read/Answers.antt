@@ -1,10 +1,11 @@
-use Rattle.std.proofs.Common.{◌≡◌, map, string_bytes, rules}
+use Rattle.std.proofs.Common.{◌≡◌, map, string_bytes, sym, rules}
 use Rattle.fdw_api.specs.Kinds.{column_of, option_form}
 use Rattle.csv_tables.specs.Content.{IsContent, TellsCause}
 use Rattle.csv_tables.specs.Shapes.{content_causes}
 use Rattle.csv_tables.specs.Flat.{header_in}
 use Rattle.csv_tables.specs.Tables.{shape_is, records_of}
-use Rattle.csv_wrapper.proofs.Placing.{content_refused, reads_as, columns_there, names_there, heads}
+use Rattle.csv_tables.proofs.Planning.{headed_by}
+use Rattle.csv_wrapper.proofs.Placing.{content_refused, reads_as, columns_there, names_there}
 use Rattle.csv_wrapper.proofs.RisingTold.{rise_told}
 use Rattle.csv_wrapper.proofs.places.CsvPlacesPlacedTable.read.Goals as goal
 
@@ -19,7 +20,7 @@ invariant_of-table c =
     let bytes = c.args.content.items in
     let content : IsContent (shape_is l) bytes (header_in c.in-Ok.content.header) (records_of c.in-Ok.content.rows) = rw c.deref.ensures.value at c.in-Ok.ensures.ok in
     let some = names_there l (map column_of c.args.columns.now) (map option_form c.args.options.now) c.in_ok-layout.ensures (columns_there (shape_is l) bytes content.no_cause) in
-    record { sized = c.in-Ok.ensures.width; named = some; headed = heads l bytes (header_in c.in-Ok.content.header) some content.header_is }
+    record { sized = c.in-Ok.ensures.width; named = some; headed = headed_by l bytes (header_in c.in-Ok.content.header) some (sym content.header_is) }
 
 pub returns-clause-ok : goal.returns-clause-ok
 returns-clause-ok c =

@@ -1,7 +1,7 @@
 use Rattle.std.proofs.Common.{◌≡◌, ◌∙◌, sym, ap, refl, subst, true, length, ◌<◌, arith, rules, bytes_eq}
 use Rattle.std.proofs.lemmas.Option.{slice_get_within, slice_get_read}
 use Rattle.std.specs.String.{string_bytes}
-use Rattle.list_wrapper.specs.declared.list.ListTable.{ListTable}
+use Rattle.list_wrapper.specs.declared.held_tables.Table.{Table}
 use Rattle.list_wrapper.specs.Scans.{entry_at}
 use Rattle.list_wrapper.proofs.Tables.{list_binds, list_lacks, list_mismatches, some_inj}
 use Rattle.list_wrapper.proofs.list.ListWrapperWrapper.bind.Goals as goal
@@ -37,5 +37,5 @@ returns-clause-ok c =
     let m = s.marked in
     let x = c.index.result.now in
     let d = slice_get_read s.tables.items (length s.tables.items) c.in-Some.at x refl b c.index.ensures in
-    let same = subst (λ (z : ListTable). bytes_eq (string_bytes z.name) c.args.remote.now ≡ true) (some_inj _ _ (sym w.1 ∙ d)) w.2 in
+    let same = subst (λ (z : Table). bytes_eq (string_bytes z.name) c.args.remote.now ≡ true) (some_inj _ _ (sym w.1 ∙ d)) w.2 in
     list_binds s.tables.items s.bound.items s.scans s.staged s.next s.pulled c.in-Some.at _ _ _ x (omega arith) c.requires (c.find.ensures.entry ∙ ap (entry_at s.tables.items) c.in-Some.is) d same (search rules) s.typed

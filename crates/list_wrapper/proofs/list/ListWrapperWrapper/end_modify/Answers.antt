@@ -1,7 +1,7 @@
 use Rattle.std.proofs.Common.{◌≡◌, ◌∙◌, ap, refl, Some, None, true, length, map, rules}
 use Rattle.std.proofs.lemmas.Option.{slice_get_within, slice_get_read}
 use Rattle.fdw_api.specs.Writes.{rows_after}
-use Rattle.list_wrapper.specs.declared.list.ListTable.{ListTable}
+use Rattle.list_wrapper.specs.declared.held_tables.Table.{Table}
 use Rattle.list_wrapper.specs.Lists.{no_line, rows_fit}
 use Rattle.list_wrapper.specs.Changes.{as_held, change_is, StandsFor}
 use Rattle.list_wrapper.specs.Scans.{numbered}
@@ -45,7 +45,7 @@ invariant_of-self-2 c =
     let w = staged_there s.tables.items s.bound.items s.scans st s.staged c.args.keep s.next s.pulled es c.requires in
     let b = slice_get_within s.tables.items st.table w.1 w.2 in
     let x = c.index_mut.result.now in
-    let y : ListTable = record { name = x.name; kinds = x.kinds; rows = c.apply.new.rows } in
+    let y : Table = record { name = x.name; kinds = x.kinds; rows = c.apply.new.rows } in
     let dx = slice_get_read s.tables.items (length s.tables.items) st.table x refl b c.index_mut.ensures.value in
     let m = s.marked in
     record {
