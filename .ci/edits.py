@@ -1,9 +1,11 @@
 """Where a must-fail edit stands, which edits of a crate one check can try, and what that check tells of each."""
-import argparse, os, re
+import argparse, glob, os, re
 
 # Why a refusal shows little, in the kit's words; and what it tells of a proof file then (a name of a goal that is gone, or what cites that proof).
 LITTLE = "only because a proof file names what the edit took away"
-NAMES = re.compile(r"has no field|is not in scope|has no `|was not admitted")
+NAMES = re.compile(r"has no field|is not in scope|has no `")
+# Of so many edits at most one check tries copies.
+MOST = 60
 HEAD = re.compile(r"^( *)(?:pub(?:\(\w+\))? )?(?:const )?fn (\w+)", re.M)
 ANY_HEAD = re.compile(r"\bfn \w")
 
@@ -28,11 +30,15 @@ def changed_part(text, old, new):
     at = text.find(old)
     return at + before, at + len(old) - after
 
+def above(text, head):
+    """The heads of the impls and traits above a method, the nearest last."""
+    return [*re.finditer(r"^(?:unsafe )?(?:impl|(?:pub(?:\(\w+\))? )?trait)\b[^{]*\{", text[: head.start()], re.M)]
+
 def type_around(text, head):
     """How a check names the type that a method is of, with the trait that it implements: none of a function, and None where that cannot be told."""
     if not head[1]:
         return ""
-    around = [*re.finditer(r"^(?:unsafe )?(?:impl|(?:pub(?:\(\w+\))? )?trait)\b[^{]*\{", text[: head.start()], re.M)]
+    around = above(text, head)
     if not around or re.search(r"^\}", text[around[-1].end() : head.start()], re.M):
         return None
     words = re.sub(r"\s+", " ", around[-1][0].partition(" where")[0].rstrip("{ \n"))
@@ -49,9 +55,9 @@ def type_around(text, head):
     return named and (named[1] or ("Any" if is_any else named[3]) + (named[2] or "") + given)
 
 def function_of(crate, path, text, head):
-    """What a check tells of the function that begins here, or None where that cannot be said: its name, and whether it is in a cycle of calls; the name
-    that `--only` takes; how a check's line of it begins (a method's under the module of its type, which may be another than this file's); the folder of
-    its proof; its file, its lines there, and its body's place in the text."""
+    """What a check tells of the function that begins here, or None where that cannot be said: its number in its file, its name, and whether it is in a cycle of
+    calls; whether a copy of it can stand beside it; the name that `--only` takes; how a check's line of it begins (a method's under the module of its type, which
+    may be another than this file's); the folder of its proof; its file, the words of its text, its lines, and its body's place there."""
     kind = type_around(text, head)
     body = re.compile(rf"^{head[1]}(?:\S[^\n]*)?\{{(\n.*?^{head[1]})\}}\n", re.M | re.S).search(text, head.start())
     if kind is None or not body:
@@ -60,11 +66,17 @@ def function_of(crate, path, text, head):
     cycle = re.search(r"cycle\((\w+)\)", text[text.rfind("\n\n", 0, head.start()) : head.start()])
     under = rf"(?:\w+/)*{kind}/" if kind else module.replace("::", "/")
     proofs = rf"(?:{under}{head[2]}{rf'|(?:[^/]+/)*[+]{cycle[1]}' if cycle else ''})/"
-    above = re.search(r"(?:^(?! *//)[^\n]*[^{};\n]\n)*\Z", text[: head.start()], re.M).start()
+    start = re.search(r"(?:^(?! *//)[^\n]*[^{};\n]\n)*\Z", text[: head.start()], re.M).start()
+    number = len(HEAD.findall(text, 0, head.start()))
+    # (what is a trait's has a place for no second, and one that calls itself would call the other)
+    is_of_trait = kind and re.search(r"\btrait\b|\bfor\b", above(text, head)[-1][0])
+    calls_itself = re.search(rf"\b{head[2]}\b", body[1]) and glob.glob(f"{glob.escape(crate.folder)}/proofs/**/+{head[2]}", recursive=True)
     return argparse.Namespace(
-        who=f"{path} {len(HEAD.findall(text, 0, head.start()))}", name=head[2], in_cycle=bool(cycle), only=f"{kind}::{head[2]}" if kind else f"{module}{head[2]}",
+        who=f"{path} {number}", number=number, name=head[2], in_cycle=bool(cycle), has_copies=not (cycle or is_of_trait or calls_itself),
+        only=f"{kind}::{head[2]}" if kind else f"{module}{head[2]}",
         begins=rf"^fn {crate.name}::{under.replace('/', '::')}{head[2]}: (.*)$", folder=rf"(?:\./)?proofs/{proofs}",
-        path=path, lines=range(text.count("\n", 0, above) + 1, text.count("\n", 0, body.end()) + 1), body=body.span(1))
+        path=path, words={*re.findall(r"\w+", text[start : body.end()])} - {head[2]},
+        lines=range(text.count("\n", 0, start) + 1, text.count("\n", 0, body.end()) + 1), body=body.span(1))
 
 def function_at(crate, path, text, old, new):
     """The function in whose body alone an edit changes this text, or None."""
@@ -108,20 +120,28 @@ def applied(crate, edits):
     return texts
 
 def rounds_of(crate, edits):
-    """The edits in groups that one check each can try, no two of one function in a group, each with its place; and those that change no body of one
-    function."""
-    rounds, others = [], []
-    for edit in edits:
-        at = place(crate, edit)
-        if not at or applied(crate, [edit]) is None:
-            others.append(edit)
-            continue
-        fits = lambda group: at.who not in {it.who for it in group.values()} and applied(crate, [*group, edit]) is not None
-        group = next(filter(fits, rounds), None)
+    """The edits in groups that one check each can try, each with its place: any edits of functions that have copies, and of the others no two of one function, and
+    none of one that another of the group names, since its proof is missing there. And those that change no body of one function."""
+    places, rounds = {it: place(crate, it) for it in edits}, []
+    others = [it for it in edits if not places[it] or applied(crate, [it]) is None]
+    groups = -(-sum(it is not None and it.has_copies for it in places.values()) // MOST)
+    most = -(-len(edits) // max(groups, 1))
+    for edit in sorted((it for it in edits if it not in others), key=lambda it: not places[it].has_copies):
+        at = places[edit]
+        group = next((it for it in rounds if (len(it) < most if at.has_copies else fits(crate, it, edit, at))), None)
         if group is None:
             rounds.append(group := {})
         group[edit] = at
     return rounds, others
+
+def fits(crate, group, edit, at):
+    """Whether one check can try an edit of a function that has no copies beside those of a group."""
+    stay = [it for it, other in group.items() if not other.has_copies]
+    return not any(are_tied(at, it) for it in group.values()) and applied(crate, [*stay, edit]) is not None
+
+def are_tied(at, other):
+    """Whether one check cannot tell of both functions, of which the first has no copies: they are one, or one names the other."""
+    return at.who == other.who or at.name in other.words or not other.has_copies and other.name in at.words
 
 def goals_at(at, told):
     """The goals that a check leaves open at a function's lines."""
@@ -139,11 +159,26 @@ def refused_alone(group, told):
             # (else the name is that of several functions; the functions of a cycle have one proof, in which a goal's name begins with its function's)
             goals += [line for line in lines if "`search` did not prove" in line and not at.in_cycle]
             errors = re.findall(rf"^(?:note: )?{at.folder}\S*?:\d+:\d+: error: ({f'`{at.name}-' if at.in_cycle else ''}.*)$", told, re.M)
+        # (that something is not admitted tells of that, and not of this proof)
+        errors = [it for it in errors if "was not admitted" not in it]
         little = not goals and all(map(NAMES.search, errors))
-        # (a name that is gone may be that of a proof which it cites of what it calls)
-        if "proved" not in lines and (goals or errors and not (little and re.search("it (calls|passes) ", lines[0]))):
+        if (goals or errors) and not any(is_whole(it) for it in lines):
             refused[edit] = f"{(goals or errors)[0][:160]}{f' ({LITTLE})' if little else ''}"
     return refused
+
+def is_whole(line):
+    """Whether a check's line of a function says that nothing of its own is left to prove."""
+    return line == "proved" or line.startswith(("no holes", "depends on a hole in "))
+
+def is_whole_at(at, told):
+    """Whether a check tells that nothing of this function's own is left to prove."""
+    lines = re.findall(at.begins, told, re.M)
+    return len(lines) == 1 and is_whole(lines[0])
+
+def errors_elsewhere(places, told):
+    """The files in which a check tells of an error, and that are not of the proofs of these functions."""
+    files = re.findall(r"^(?:note: )?((?:\./)?(?:specs|proofs)/\S+?):\d+:\d+: error", told, re.M)
+    return sorted({it for it in files if not any(re.match(at.folder, it) for at in places)})
 
 def little_of(refusals):
     """The line that counts apart which of these refusals show little, and names them."""

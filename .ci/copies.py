@@ -1,0 +1,106 @@
+"""By what texts one check tries edits: beside a function stands a copy of it for each edit of its body, each under a name of its own, and the functions that no
+edit changes stand there by their statements alone. A function is proved from the contracts of what it calls, so that a copy is proved there from just what the
+function is proved from in its crate."""
+import argparse, glob, hashlib, os, re, runpy
+
+where = argparse.Namespace(**runpy.run_path(f"{os.path.dirname(os.path.realpath(__file__))}/edits.py"))
+# A function by its statement: in place of its proof there is a hole, of any type, so that a check does not print the statement as what is left to prove.
+BY_STATEMENT = """use Rattle.{crate}.proofs.{path}.Statement as stated
+
+taken : {{A : Type 2}} → A
+taken = ?
+
+pub {name}_spec : {{M : Type 1}} → stated.statement M
+{name}_spec = taken
+"""
+
+def functions(crate):
+    """The crate's functions, as the library that was built of it names them."""
+    return {*re.findall(rf'"(?:part/)?Rattle-{crate.name}-proofs\.([^"]*)\.Code"', where.text_of(f"{crate.rlib}/toolchain/checked.json"))}
+
+def name_in(functions, at):
+    """What the crate's library names a function, or None where that cannot be told."""
+    found = [it for it in functions if re.fullmatch(at.folder, f"proofs/{it.replace('.', '/')}/")]
+    return found[0] if len(found) == 1 else None
+
+def files_of(crate, name):
+    """The files of a function's proof, by their paths in the crate."""
+    found = glob.glob(f"{glob.escape(crate.folder)}/proofs/{name.replace('.', '/')}/*.antt")
+    return {os.path.relpath(it, crate.folder): where.text_of(it) for it in found}
+
+class Copy:
+    """A function as it stands with an edit, or as it is, under another name: its text, the files of its proof by their paths, and which of these the edit changes."""
+    def __init__(self, crate, name, at, edit, new):
+        texts = where.applied(crate, [edit]) if edit else {}
+        text = texts.get(at.path) or where.text_of(f"{crate.folder}/{at.path}")
+        there = where.function_of(crate, at.path, text, [*where.HEAD.finditer(text)][at.number])
+        lines = "".join(text.splitlines(True)[there.lines.start - 1 : there.lines.stop - 1])
+        below = name.rpartition(".")[0]
+        self.at, self.edit, self.new, self.text = at, edit, new, re.sub(rf"\bfn {at.name}\b", f"fn {new}", lines, count=1)
+        self.name, self.proof, self.changed = f"{below}.{new}" if below else new, {}, set()
+        for path, proof in files_of(crate, name).items():
+            own, copied = (f"Rattle.{crate.name}.proofs.{it}." for it in (name, self.name))
+            to = f"proofs/{self.name.replace('.', '/')}/{os.path.basename(path)}"
+            self.proof[to] = texts.get(path, proof).replace(own, copied)
+            self.changed |= {to} if path in texts else set()
+
+def drawn(edits):
+    """One of these edits, by their names: of its function an unchanged copy stands beside the others."""
+    return min(edits, key=lambda it: hashlib.sha256(os.path.basename(it).encode()).digest())
+
+def copies_of(crate, functions, group):
+    """Of a group of edits the copies that one check tries, the last of which is unchanged."""
+    found = [(it, at, name_in(functions, at)) for it, at in group.items() if at.has_copies]
+    made = [Copy(crate, name, at, edit, f"{at.name}_edit{number}") for number, (edit, at, name) in enumerate(found) if name]
+    if made:
+        at = group[drawn([it.edit for it in made])]
+        made.append(Copy(crate, name_in(functions, at), at, None, f"{at.name}_as_it_is"))
+    return made
+
+def by_statement(crate, functions, path, text, edited):
+    """A file's text in which the functions that are not edited stand by their statements, their bodies a loop that never ends, since nothing of a body is asked
+    there; and what stands in place of their proofs, by path, None for a file that is gone."""
+    files, bodies = {}, []
+    for head in where.HEAD.finditer(text):
+        at = where.function_of(crate, path, text, head)
+        name = at and not at.in_cycle and at.folder not in edited and name_in(functions, at)
+        # (a function of a trait that has no body has no proof; one that calls itself has it under another name, and calls itself no more)
+        if name and at.body[0] >= max(bodies, default=(0, 0))[1] and not re.search(r";\s*\n", text[head.start() : at.body[0]]):
+            below, dot, last = name.rpartition(".")
+            files |= dict.fromkeys([*files_of(crate, name), *files_of(crate, f"{below}{dot}+{last}")])
+            files[f"proofs/{name.replace('.', '/')}/Proof.antt"] = BY_STATEMENT.format(crate=crate.name, path=name, name=last)
+            bodies.append(at.body)
+    for start, end in reversed(bodies):
+        text = f"{text[:start]}\n    loop {{}}\n{text[:end].rpartition(chr(10))[2]}{text[end:]}"
+    return text, files
+
+def of_group(crate, functions, group):
+    """What stands in a check of a group of edits in place of the crate's own files, by path, None for a file that is gone; which of these an edit changes; where
+    each edit stands there; and where the copy stands that has none. Or None where the edits cannot stand beside each other."""
+    made, stay = copies_of(crate, functions, group), {it: at for it, at in group.items() if not at.has_copies}
+    if (texts := where.applied(crate, [*stay])) is None:
+        return None
+    files, places, edited = dict(texts), {}, {at.folder for at in stay.values()}
+    for path in sorted(os.path.relpath(it, crate.folder) for it in glob.glob(f"{glob.escape(crate.folder)}/src/**/*.rt", recursive=True)):
+        text, stated = by_statement(crate, functions, path, texts.get(path) or where.text_of(f"{crate.folder}/{path}"), edited)
+        own = [it for it in made if it.at.path == path]
+        files |= {**stated, path: beside(crate, path, text, own)}
+        places |= places_in(crate, path, files[path], own, stay)
+    files |= {path: it for copy in made for path, it in copy.proof.items()}
+    changed = {path for it in (texts, *(copy.changed for copy in made)) for path in it} | {it.at.path for it in made}
+    unchanged = places.pop(None, None)
+    return argparse.Namespace(files=files, changed=changed, places=places, unchanged=unchanged)
+
+def places_in(crate, path, text, made, stay):
+    """Where in a file's text the copies stand, by their edits, and the edited functions that have none."""
+    heads, names = [*where.HEAD.finditer(text)], {it.new for it in made}
+    copied, own = {it[2]: it for it in heads}, [it for it in heads if it[2] not in names]
+    found = {it.edit: copied[it.new] for it in made} | {edit: own[at.number] for edit, at in stay.items() if at.path == path}
+    return {edit: where.function_of(crate, path, text, head) for edit, head in found.items()}
+
+def beside(crate, path, text, made):
+    """A file's text with each of these copies behind the function that it is of."""
+    heads, lines = [*where.HEAD.finditer(text)], text.splitlines(True)
+    for copy in sorted(made, key=lambda it: it.at.number, reverse=True):
+        lines.insert(where.function_of(crate, path, text, heads[copy.at.number]).lines.stop - 1, f"\n{copy.text}")
+    return "".join(lines)
