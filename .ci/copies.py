@@ -67,7 +67,7 @@ def by_statement(crate, functions, path, text, edited):
         # (a function of a trait that has no body has no proof; one that calls itself has it under another name, and calls itself no more)
         if name and at.body[0] >= max(bodies, default=(0, 0))[1] and not re.search(r";\s*\n", text[head.start() : at.body[0]]):
             below, dot, last = name.rpartition(".")
-            files |= dict.fromkeys([*files_of(crate, name), *files_of(crate, f"{below}{dot}+{last}")])
+            files |= dict.fromkeys([*files_of(crate, name), *(files_of(crate, f"{below}{dot}+{last}") if at.calls_itself else ())])
             files[f"proofs/{name.replace('.', '/')}/Proof.antt"] = BY_STATEMENT.format(crate=crate.name, path=name, name=last)
             bodies.append(at.body)
     for start, end in reversed(bodies):

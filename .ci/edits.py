@@ -56,7 +56,7 @@ def type_around(text, head):
 
 def function_of(crate, path, text, head):
     """What a check tells of the function that begins here, or None where that cannot be said: its number in its file, its name, and whether it is in a cycle of
-    calls; whether a copy of it can stand beside it; the name that `--only` takes; how a check's line of it begins (a method's under the module of its type, which
+    calls, or calls itself; whether a copy of it can stand beside it; the name that `--only` takes; how a check's line of it begins (a method's under the module of its type, which
     may be another than this file's); the folder of its proof; its file, the words of its text, its lines, and its body's place there."""
     kind = type_around(text, head)
     body = re.compile(rf"^{head[1]}(?:\S[^\n]*)?\{{(\n.*?^{head[1]})\}}\n", re.M | re.S).search(text, head.start())
@@ -70,10 +70,10 @@ def function_of(crate, path, text, head):
     number = len(HEAD.findall(text, 0, head.start()))
     # (what is a trait's has a place for no second, and one that calls itself would call the other)
     is_of_trait = kind and re.search(r"\btrait\b|\bfor\b", above(text, head)[-1][0])
-    calls_itself = re.search(rf"\b{head[2]}\b", body[1]) and glob.glob(f"{glob.escape(crate.folder)}/proofs/**/+{head[2]}", recursive=True)
+    calls_itself = not cycle and bool(re.search(rf"\b{head[2]}\b", body[1]) and glob.glob(f"{glob.escape(crate.folder)}/proofs/**/+{head[2]}", recursive=True))
     return argparse.Namespace(
-        who=f"{path} {number}", number=number, name=head[2], in_cycle=bool(cycle), has_copies=not (cycle or is_of_trait or calls_itself),
-        only=f"{kind}::{head[2]}" if kind else f"{module}{head[2]}",
+        who=f"{path} {number}", number=number, name=head[2], in_cycle=bool(cycle), calls_itself=calls_itself,
+        has_copies=not (cycle or is_of_trait or calls_itself), only=f"{kind}::{head[2]}" if kind else f"{module}{head[2]}",
         begins=rf"^fn {crate.name}::{under.replace('/', '::')}{head[2]}: (.*)$", folder=rf"(?:\./)?proofs/{proofs}",
         path=path, words={*re.findall(r"\w+", text[start : body.end()])} - {head[2]},
         lines=range(text.count("\n", 0, start) + 1, text.count("\n", 0, body.end()) + 1), body=body.span(1))
@@ -171,9 +171,8 @@ def is_whole(line):
     return line == "proved" or line.startswith(("no holes", "depends on a hole in "))
 
 def is_whole_at(at, told):
-    """Whether a check tells that nothing of this function's own is left to prove."""
-    lines = re.findall(at.begins, told, re.M)
-    return len(lines) == 1 and is_whole(lines[0])
+    """Whether a check tells of this function, and of nothing of its own that is left to prove."""
+    return len(re.findall(at.begins, told, re.M)) == 1 and not refused_alone({None: at}, told)
 
 def errors_elsewhere(places, told):
     """The files in which a check tells of an error, and that are not of the proofs of these functions."""
