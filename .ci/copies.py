@@ -29,7 +29,7 @@ def files_of(crate, name):
     return {os.path.relpath(it, crate.folder): where.text_of(it) for it in found}
 
 class Copy:
-    """A function as it stands with an edit, or as it is, under another name: its text, the files of its proof by their paths, and which of these the edit changes."""
+    """A function as it stands with an edit, or as it is, under another name: its text, the files of its proof by their paths, and which the edit changes."""
     def __init__(self, crate, name, at, edit, new):
         texts = where.applied(crate, [edit]) if edit else {}
         text = texts.get(at.path) or where.text_of(f"{crate.folder}/{at.path}")
@@ -44,33 +44,35 @@ class Copy:
             self.proof[to] = texts.get(path, proof).replace(own, copied)
             self.changed |= {to} if path in texts else set()
 
-def drawn(edits):
-    """One of these edits, by their names: of its function an unchanged copy stands beside the others."""
-    return min(edits, key=lambda it: hashlib.sha256(os.path.basename(it).encode()).digest())
+def drawn(crate, group, edits):
+    """One of these edits, by their names: of its function an unchanged copy stands beside the others. Its proof waits for no function that is edited there."""
+    cycles, stay = where.cycles_of(crate), [it for it in group.values() if not it.has_copies]
+    return min([it for it in edits if where.is_apart(group[it], stay, cycles)] or edits, key=lambda it: hashlib.sha256(os.path.basename(it).encode()).digest())
 
 def copies_of(crate, functions, group):
     """Of a group of edits the copies that one check tries, the last of which is unchanged."""
     found = [(it, at, name_in(functions, at)) for it, at in group.items() if at.has_copies]
     made = [Copy(crate, name, at, edit, f"{at.name}_edit{number}") for number, (edit, at, name) in enumerate(found) if name]
     if made:
-        at = group[drawn([it.edit for it in made])]
+        at = group[drawn(crate, group, [it.edit for it in made])]
         made.append(Copy(crate, name_in(functions, at), at, None, f"{at.name}_as_it_is"))
     return made
 
 def by_statement(crate, functions, path, text, edited):
     """A file's text in which the functions that are not edited stand by their statements, their bodies a loop that never ends, since nothing of a body is asked
-    there; and what stands in place of their proofs, by path, None for a file that is gone."""
+    there but, in a crate that names `dyn`, which values a `dyn` type has; and what stands in place of their proofs, by path, None for a file that is gone."""
     files, bodies = {}, []
+    names_dyn = any(re.search(r"\bdyn\b", where.text_of(it)) for it in glob.glob(f"{glob.escape(crate.folder)}/src/**/*.rt", recursive=True))
     for head in where.HEAD.finditer(text):
         at = where.function_of(crate, path, text, head)
         name = at and not at.in_cycle and at.folder not in edited and name_in(functions, at)
-        # (a function of a trait that has no body has no proof; one that calls itself has it under another name, and calls itself no more)
+        # (of a trait one that has no body has no proof; one that calls itself has it under another name, and calls itself no more)
         if name and at.body[0] >= max(bodies, default=(0, 0))[1] and not re.search(r";\s*\n", text[head.start() : at.body[0]]):
             below, dot, last = name.rpartition(".")
             files |= dict.fromkeys([*files_of(crate, name), *(files_of(crate, f"{below}{dot}+{last}") if at.calls_itself else ())])
             files[f"proofs/{name.replace('.', '/')}/Proof.antt"] = BY_STATEMENT.format(crate=crate.name, path=name, name=last)
             bodies.append(at.body)
-    for start, end in reversed(bodies):
+    for start, end in [] if names_dyn else reversed([it for it in bodies if it[0] < it[1]]):
         text = f"{text[:start]}\n    loop {{}}\n{text[:end].rpartition(chr(10))[2]}{text[end:]}"
     return text, files
 

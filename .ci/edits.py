@@ -6,6 +6,8 @@ LITTLE = "only because a proof file names what the edit took away"
 NAMES = re.compile(r"has no field|is not in scope|has no `")
 # Of so many edits at most one check tries copies.
 MOST = 60
+# Methods that are called also where nothing names them: by `?`, and by comparisons.
+UNNAMED = {"from", "eq", "cmp", "partial_cmp"}
 HEAD = re.compile(r"^( *)(?:pub(?:\(\w+\))? )?(?:const )?fn (\w+)", re.M)
 ANY_HEAD = re.compile(r"\bfn \w")
 
@@ -56,17 +58,20 @@ def type_around(text, head):
 
 def function_of(crate, path, text, head):
     """What a check tells of the function that begins here, or None where that cannot be said: its number in its file, its name, and whether it is in a cycle of
-    calls, or calls itself; whether a copy of it can stand beside it; the name that `--only` takes; how a check's line of it begins (a method's under the module of its type, which
-    may be another than this file's); the folder of its proof; its file, the words of its text, its lines, and its body's place there."""
+    calls, or calls itself; whether a copy of it can stand beside it; the name that `--only` takes; how a check's line of it begins (a method's under the module
+    of its type, which may be another than this file's); the folder of its proof; its file, the words of its text, its lines, and its body's place there."""
     kind = type_around(text, head)
-    body = re.compile(rf"^{head[1]}(?:\S[^\n]*)?\{{(\n.*?^{head[1]})\}}\n", re.M | re.S).search(text, head.start())
+    # (that of a law can be empty)
+    body = re.compile(rf"^{head[1]}(?:\S[^\n]*)?\{{(\n.*?^{head[1]}|)\}}\n", re.M | re.S).search(text, head.start())
     if kind is None or not body:
         return None
     module = "" if path == "src/lib.rt" else path[4:-3].removesuffix("/mod").replace("/", "::") + "::"
     cycle = re.search(r"cycle\((\w+)\)", text[text.rfind("\n\n", 0, head.start()) : head.start()])
     under = rf"(?:\w+/)*{kind}/" if kind else module.replace("::", "/")
     proofs = rf"(?:{under}{head[2]}{rf'|(?:[^/]+/)*[+]{cycle[1]}' if cycle else ''})/"
-    start = re.search(r"(?:^(?! *//)[^\n]*[^{};\n]\n)*\Z", text[: head.start()], re.M).start()
+    # (an attribute over several lines can have lines of comment)
+    behind = text.rfind("\n\n", 0, head.start()) + 1
+    start = behind + re.search(r"(?:^ *#\[[^][]*(?:\[[^][]*\][^][]*)*\]\n|^(?! *//)[^\n]*[^{};\n]\n)*\Z", text[behind : head.start()], re.M).start()
     number = len(HEAD.findall(text, 0, head.start()))
     # (what is a trait's has a place for no second, and one that calls itself would call the other)
     is_of_trait = kind and re.search(r"\btrait\b|\bfor\b", above(text, head)[-1][0])
@@ -119,25 +124,45 @@ def applied(crate, edits):
         texts[path] = now.replace(old, new)
     return texts
 
-def rounds_of(crate, edits):
+def groups_of(crate, edits):
     """The edits in groups that one check each can try, each with its place: any edits of functions that have copies, and of the others no two of one function, and
     none of one that another of the group names, since its proof is missing there. And those that change no body of one function."""
-    places, rounds = {it: place(crate, it) for it in edits}, []
+    places, found = {it: place(crate, it) for it in edits}, []
+    cycles = cycles_of(crate)
     others = [it for it in edits if not places[it] or applied(crate, [it]) is None]
-    groups = -(-sum(it is not None and it.has_copies for it in places.values()) // MOST)
-    most = -(-len(edits) // max(groups, 1))
+    fewest = -(-sum(it is not None and it.has_copies for it in places.values()) // MOST)
+    most = -(-len(edits) // max(fewest, 1))
     for edit in sorted((it for it in edits if it not in others), key=lambda it: not places[it].has_copies):
         at = places[edit]
-        group = next((it for it in rounds if (len(it) < most if at.has_copies else fits(crate, it, edit, at))), None)
+        group = next((it for it in found if (len(it) < most if at.has_copies else fits(crate, it, edit, at, cycles))), None)
         if group is None:
-            rounds.append(group := {})
+            found.append(group := {})
         group[edit] = at
-    return rounds, others
+    return found, others
 
-def fits(crate, group, edit, at):
-    """Whether one check can try an edit of a function that has no copies beside those of a group."""
-    stay = [it for it, other in group.items() if not other.has_copies]
-    return not any(are_tied(at, it) for it in group.values()) and applied(crate, [*stay, edit]) is not None
+def cycles_of(crate):
+    """The words of each function of the crate that is in a cycle of calls, by its name: these have their proofs in every check."""
+    cycles = {}
+    for path in glob.glob("src/**/*.rt", root_dir=crate.folder, recursive=True):
+        text = text_of(f"{crate.folder}/{path}")
+        for at in filter(lambda it: it and it.in_cycle, (function_of(crate, path, text, head) for head in HEAD.finditer(text))):
+            cycles.setdefault(at.name, set()).update(at.words)
+    return cycles
+
+def is_apart(at, others, cycles):
+    """Whether a function's proof waits for none of these others: it names none, nor does a cycle of calls that it names, or that such a one names in turn."""
+    reach, left = {*at.words}, at.words & {*cycles}
+    while left:
+        reach |= (more := set().union(*(cycles[it] for it in left)) - reach)
+        left = more & {*cycles}
+    return not any(it.name in reach | UNNAMED for it in others)
+
+def fits(crate, group, edit, at, cycles):
+    """Whether one check can try an edit of a function that has no copies beside those of a group, and leaves a function there whose copy can be proved."""
+    stay, copied = ([it for it, other in group.items() if other.has_copies is has] for has in (False, True))
+    edited = [at, *(group[it] for it in stay)]
+    is_left = not copied or any(is_apart(group[it], edited, cycles) for it in copied)
+    return is_left and not any(are_tied(at, it) for it in group.values()) and applied(crate, [*stay, edit]) is not None
 
 def are_tied(at, other):
     """Whether one check cannot tell of both functions, of which the first has no copies: they are one, or one names the other."""
@@ -171,8 +196,9 @@ def is_whole(line):
     return line == "proved" or line.startswith(("no holes", "depends on a hole in "))
 
 def is_whole_at(at, told):
-    """Whether a check tells of this function, and of nothing of its own that is left to prove."""
-    return len(re.findall(at.begins, told, re.M)) == 1 and not refused_alone({None: at}, told)
+    """Whether a check tells of this function, and that nothing of its own is left to prove."""
+    lines = re.findall(at.begins, told, re.M)
+    return len(lines) == 1 and is_whole(lines[0]) and not refused_alone({None: at}, told)
 
 def errors_elsewhere(places, told):
     """The files in which a check tells of an error, and that are not of the proofs of these functions."""
