@@ -1,7 +1,7 @@
 //! Long texts of statements, and memory that is refused.
 use crate::rows::{Answer, assert_rows, repeated};
-use med_parser::{parse, print};
-use med_value::Cause;
+use crate::statements::statement_text;
+use med_parser::parse;
 use std::alloc::Global;
 use std::process::Abort;
 use std::test::Fail;
@@ -26,12 +26,11 @@ struct Refusal;
 impl Answer for Refusal {
     fn answer(alloc: Global, row: &str) -> Result<String, Fail> {
         let text = repeated(alloc, row)?;
-        let word = if parse(alloc, &text).is_ok() {
-            "read"
-        } else {
-            "refused"
-        };
-        Ok(format!(in alloc; "{word} in {} bytes", text.len())?)
+        let length = text.len();
+        Ok(match parse(alloc, &text) {
+            Ok(_) => format!(in alloc; "read in {length} bytes")?,
+            Err(_) => format!(in alloc; "refused in {length} bytes")?,
+        })
     }
 }
 
@@ -105,18 +104,24 @@ fn long_texts_that_are_refused(rt: HostRuntime) -> Result<(), Fail> {
     )
 }
 
-/// Stops where a text is written out otherwise than its row wants, or refused though memory was not.
-fn assert_written_or_no_memory(alloc: Global, rt: &impl Abort, rows: &str) -> Result<(), Fail> {
+/// Stops where a text is written out otherwise than its row wants, or refused though memory was not. (To write it out fails for want of memory alone.)
+fn assert_written_or_no_memory(alloc: Global, rt: &impl Abort, row: &str) -> Result<(), Fail> {
+    let (text, wanted) = row.split_once(" => ").ok_or(row)?;
+    if let Ok(came) = statement_text(alloc, text) {
+        let wanted = if came.as_str() == "OutOfMemory" {
+            "OutOfMemory"
+        } else {
+            wanted
+        };
+        assert_eq!(rt; came.as_str(), wanted, "in {text}");
+    }
+    Ok(())
+}
+
+/// The same of each line.
+fn assert_all_written_or_no_memory(alloc: Global, rt: &impl Abort, rows: &str) -> Result<(), Fail> {
     for row in rows.lines() {
-        let (text, wanted) = row.split_once(" => ").ok_or(row)?;
-        match parse(alloc, text) {
-            Ok(command) => {
-                if let Ok(came) = print(alloc, &command) {
-                    assert_eq!(rt; came.as_str(), wanted, "in {text}");
-                }
-            }
-            Err(cause) => assert_eq!(rt; cause, Cause::OutOfMemory, "in {text}"),
-        }
+        assert_written_or_no_memory(alloc, rt, row)?;
     }
     Ok(())
 }
@@ -124,7 +129,7 @@ fn assert_written_or_no_memory(alloc: Global, rt: &impl Abort, rows: &str) -> Re
 // This holds whichever allocation is refused: `rt try --test --fail-alloc N` refuses the Nth.
 #[test]
 fn refused_allocations(rt: HostRuntime) -> Result<(), Fail> {
-    assert_written_or_no_memory(
+    assert_all_written_or_no_memory(
         rt.alloc(),
         &rt,
         "SELECT *, t.*, a AS from, 'b' c => SELECT * , \"t\" . * , \"a\" AS \"from\" , 'b' AS \"c\"\n\

@@ -1,18 +1,24 @@
 //! Statements read and written out.
 use crate::rows::{Answer, assert_row, assert_rows};
 use med_parser::{Command, parse, print};
+use med_value::NoMemory;
 use std::alloc::Global;
 use std::test::Fail;
 
 /// The statement of the text, written out, or why it is refused.
+pub fn statement_text(alloc: Global, text: &str) -> Result<String, NoMemory> {
+    match parse(alloc, text) {
+        Ok(command) => Ok(print(alloc, &command)?),
+        Err(cause) => Ok(format!(in alloc; "{cause:?}")?),
+    }
+}
+
+/// The same, as an answer.
 pub struct Printed;
 
 impl Answer for Printed {
     fn answer(alloc: Global, text: &str) -> Result<String, Fail> {
-        match parse(alloc, text) {
-            Ok(command) => Ok(print(alloc, &command)?),
-            Err(cause) => Ok(format!(in alloc; "{cause:?}")?),
-        }
+        Ok(statement_text(alloc, text)?)
     }
 }
 

@@ -76,18 +76,35 @@ fn row(alloc: Global, from: Option<usize>) -> Result<Row, Fail> {
     Ok(Row { cells })
 }
 
+// What the text is bound to over these tables.
+fn bound_over(
+    alloc: Global,
+    text: &str,
+    tables: &[TableView<'_>],
+) -> Result<Result<BoundQuery, Cause>, Fail> {
+    match parse(alloc, text) {
+        Ok(Command::Data(statement)) => {
+            let bound = bind_views(alloc, &statement, tables, "ann");
+            drop(statement);
+            Ok(bound)
+        }
+        Ok(other) => {
+            drop(other);
+            Err(text.into())
+        }
+        Err(_) => Err(text.into()),
+    }
+}
+
 // What the text is bound to over the three tables.
 fn bound(alloc: Global, text: &str) -> Result<Result<BoundQuery, Cause>, Fail> {
-    let Ok(Command::Data(statement)) = parse(alloc, text) else {
-        return Err(text.into());
-    };
     let (parts, orders, odd) = (parts(alloc)?, orders(alloc)?, odd(alloc)?);
     let tables = [
         table("parts", parts.as_slice()),
         table("orders", orders.as_slice()),
         table("Odd", odd.as_slice()),
     ];
-    Ok(bind_views(alloc, &statement, &tables, "ann"))
+    bound_over(alloc, text, &tables)
 }
 
 // What is told of a bound query: the names of its answer and the fields for the first row of its first entry's table, or the fault of an item; how many

@@ -115,16 +115,21 @@ fn leaf(alloc: Global, step: &str) -> Result<Expr, Fail> {
     })
 }
 
+// The top of the stack.
+fn top(stack: &mut Vec<Expr>) -> Result<Expr, Fail> {
+    Ok(stack.pop().ok_or("too few parts")?)
+}
+
+// The top of the stack on the heap.
 fn popped(alloc: Global, stack: &mut Vec<Expr>) -> Result<Box<Expr>, Fail> {
-    let top = stack.pop().ok_or("too few parts")?;
-    Ok(Box::new(alloc, top)?)
+    Ok(Box::new(alloc, top(stack)?)?)
 }
 
 fn popped_parts(alloc: Global, count: &str, stack: &mut Vec<Expr>) -> Result<Vec<Expr>, Fail> {
     let count: u8 = count.parse()?;
     let mut parts = Vec::new(alloc);
     for _ in 0..count {
-        parts.push(stack.pop().ok_or("too few parts")?)?;
+        parts.push(top(stack)?)?;
     }
     parts.reverse();
     Ok(parts)
