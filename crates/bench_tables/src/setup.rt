@@ -114,16 +114,23 @@ pub fn bench_engine(alloc: Global, count: u32) -> Result<Engine<ListWrapper>, Be
 {
     let list = ListWrapper::new(alloc, bench_tables(alloc, count)?)?;
     let Ok(mut engine) = Engine::<ListWrapper>::new(alloc, "admin") else {
+        drop(list);
         return Err(BenchFault::NoMemory);
     };
     lists_take_tables();
     match engine.add_source("bench", SourceKind::List, list) {
         Ok(()) => {}
-        Err(_) => return Err(BenchFault::NoMemory),
+        Err(_) => {
+            drop(engine);
+            return Err(BenchFault::NoMemory);
+        }
     }
     let mut out = Vec::new(alloc);
     match make_tables(&mut engine, &mut out) {
         Ok(()) => Ok(engine),
-        Err(fault) => Err(fault),
+        Err(fault) => {
+            drop(engine);
+            Err(fault)
+        }
     }
 }

@@ -30,7 +30,9 @@ fn conjuncts_of(
     ensures { ResolvesCondition (scope_of scope.now) (Some (expr_tree condition.now)) result }
 {
     let resolved = resolve(alloc, scope, condition)?;
-    Ok(conjuncts(alloc, &resolved)?)
+    let parts = conjuncts(alloc, &resolved);
+    drop(resolved);
+    Ok(parts?)
 }
 
 /// The conjuncts of WHERE or HAVING; none without it.

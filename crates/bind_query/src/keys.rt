@@ -132,8 +132,13 @@ fn expressed(
     ensures { SortsBy (scope_of scope.now) distinct (map output_of outputs.now) (expression (expr_tree e.now)) result }
 {
     let value = resolve(alloc, scope, e)?;
-    check_shown(distinct, outputs, &value)?;
-    Ok(value)
+    match check_shown(distinct, outputs, &value) {
+        Ok(()) => Ok(value),
+        Err(cause) => {
+            drop(value);
+            Err(cause)
+        }
+    }
 }
 
 // 42P10 under DISTINCT where no output shows this.

@@ -141,9 +141,16 @@ fn push_value(
         AddsItem (scope_of scope.now) item out.old.items out.new.items result }
 {
     let value = resolve(alloc, scope, e)?;
-    let name = output_name(alloc, e, alias)?;
-    out.push(Shown { name, value })?;
-    Ok(())
+    match output_name(alloc, e, alias) {
+        Ok(name) => {
+            out.push(Shown { name, value })?;
+            Ok(())
+        }
+        Err(cause) => {
+            drop(value);
+            Err(cause)
+        }
+    }
 }
 
 // What an item stands for.

@@ -16,7 +16,7 @@ use crate::inserting::insert_over;
 use crate::updating::update_over;
 use med_binder::BoundTable;
 use med_catalog::Catalog;
-use med_syntax::WriteStatement;
+use med_syntax::{Update, WriteStatement};
 use med_value::Cause;
 use std::alloc::Global;
 
@@ -33,9 +33,27 @@ fn write_over(
     ensures { BindsWrite (objects catalog.now) (map attached bound.now) user.now (write_tree statement) result }
 {
     match statement {
-        WriteStatement::Insert(insert) => insert_over(alloc, insert, catalog, bound, user),
-        WriteStatement::Update(update) => update_over(alloc, update, catalog, bound, user),
-        WriteStatement::Delete(delete) => delete_over(alloc, delete, catalog, bound, user),
+        WriteStatement::Insert(insert) => {
+            let made = insert_over(alloc, &insert, catalog, bound, user);
+            drop(insert);
+            made
+        }
+        WriteStatement::Update(update) => {
+            let Update {
+                entry,
+                sets,
+                condition,
+            } = update;
+            let made = update_over(alloc, &entry, sets, &condition, catalog, bound, user);
+            drop(entry);
+            drop(condition);
+            made
+        }
+        WriteStatement::Delete(delete) => {
+            let made = delete_over(alloc, &delete, catalog, bound, user);
+            drop(delete);
+            made
+        }
     }
 }
 

@@ -18,20 +18,20 @@ use std::alloc::Global;
 /// A DELETE over the tables of the catalogue, or why it is refused.
 pub(crate) fn delete_over(
     alloc: Global,
-    statement: Delete,
+    statement: &Delete,
     catalog: &Catalog,
     bound: &[BoundTable],
     user: &str,
 ) -> Result<TableWrite, Cause>
     requires many { length bound.now ≡ length (objects catalog.now).tables }
     requires once { AreNamedOnce (objects catalog.now) }
-    ensures { BindsWrite (objects catalog.now) (map attached bound.now) user.now (delete (delete_tree statement)) result }
+    ensures { BindsWrite (objects catalog.now) (map attached bound.now) user.now (delete (delete_tree statement.now)) result }
 {
     let Delete { entry, condition } = statement;
     let target = find_target(catalog, bound, user, entry.table.as_str())?;
     let columns = written_columns(alloc, target.columns)?;
-    let scope = [table_in_view(&entry, target.columns)];
-    let found = bind_values(alloc, &scope, &[], &condition)?;
+    let scope = [table_in_view(entry, target.columns)];
+    let found = bind_values(alloc, &scope, &[], condition)?;
     Ok(TableWrite {
         place: target.place,
         source: target.source,

@@ -89,14 +89,14 @@ fn query_over(
 /// An INSERT over the tables of the catalogue, or why it is refused.
 pub(crate) fn insert_over(
     alloc: Global,
-    statement: Insert,
+    statement: &Insert,
     catalog: &Catalog,
     bound: &[BoundTable],
     user: &str,
 ) -> Result<TableWrite, Cause>
     requires many { length bound.now ≡ length (objects catalog.now).tables }
     requires once { AreNamedOnce (objects catalog.now) }
-    ensures { BindsWrite (objects catalog.now) (map attached bound.now) user.now (insert (insert_tree statement)) result }
+    ensures { BindsWrite (objects catalog.now) (map attached bound.now) user.now (insert (insert_tree statement.now)) result }
 {
     let Insert {
         table,
@@ -107,7 +107,7 @@ pub(crate) fn insert_over(
         Given::Values(rows) => values_over(
             alloc,
             table.as_str(),
-            &columns,
+            columns,
             rows.as_slice(),
             catalog,
             bound,
@@ -116,8 +116,8 @@ pub(crate) fn insert_over(
         Given::Rows(query) => query_over(
             alloc,
             table.as_str(),
-            &columns,
-            &query,
+            columns,
+            query,
             catalog,
             bound,
             user,

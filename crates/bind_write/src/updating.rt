@@ -7,7 +7,7 @@ ghost use Rattle.med_value.specs.Column.{Column, column_of};
 ghost use Rattle.med_catalog.specs.View.{objects};
 ghost use Rattle.med_binder.specs.Prelude.{AreNamedOnce, attached};
 ghost use Rattle.tri_expr.specs.Tree.{tree};
-ghost use Rattle.med_syntax.specs.Prelude.{update, set_tree, update_tree};
+ghost use Rattle.med_syntax.specs.Prelude.{entry_tree, expr_tree, update, set_tree};
 ghost use Rattle.bind_write.specs.Meaning.{name_place};
 ghost use Rattle.bind_write.specs.Steps.{BindsWrite, SplitsSets};
 
@@ -19,7 +19,7 @@ use crate::{
 use bind_types::kinds_of;
 use med_binder::BoundTable;
 use med_catalog::Catalog;
-use med_syntax::{Expr as Written, SetClause, Update};
+use med_syntax::{Entry, Expr as Written, SetClause};
 use med_value::{Cause, ColumnDef, NoMemory};
 use med_write::{BoundWrite, RowWrite};
 use std::alloc::Global;
@@ -86,25 +86,26 @@ fn cells_for(
 /// An UPDATE over the tables of the catalogue, or why it is refused.
 pub(crate) fn update_over(
     alloc: Global,
-    statement: Update,
+    entry: &Entry,
+    sets: Vec<SetClause>,
+    condition: &Option<Written>,
     catalog: &Catalog,
     bound: &[BoundTable],
     user: &str,
 ) -> Result<TableWrite, Cause>
     requires many { length bound.now ≡ length (objects catalog.now).tables }
     requires once { AreNamedOnce (objects catalog.now) }
-    ensures { BindsWrite (objects catalog.now) (map attached bound.now) user.now (update (update_tree statement)) result }
+    ensures { BindsWrite (objects catalog.now) (map attached bound.now) user.now (update (record {
+      entry = entry_tree entry.now;
+      sets = map set_tree sets.items;
+      condition = option_map expr_tree condition.now;
+    })) result }
 {
-    let Update {
-        entry,
-        sets,
-        condition,
-    } = statement;
     let target = find_target(catalog, bound, user, entry.table.as_str())?;
     let SetList { names, values } = split(alloc, sets)?;
     check_list(Cause::MisplacedName, target.columns, names.as_slice())?;
-    let scope = [table_in_view(&entry, target.columns)];
-    let found = bind_values(alloc, &scope, values.as_slice(), &condition)?;
+    let scope = [table_in_view(entry, target.columns)];
+    let found = bind_values(alloc, &scope, values.as_slice(), condition)?;
     let cells = cells_for(
         alloc,
         names.as_slice(),

@@ -62,8 +62,13 @@ fn joined(
     ensures { Answers room result (steps.joined_of joint (reading.below (room - 1)) room (terminals_of symbols.now)) }
 {
     let first = item(alloc, Separator::Between(joint), room, symbols)?;
-    let others = others(alloc, Separator::Between(joint), room, first.rest)?;
-    chain_made(alloc, joint, room, first.expr, first.height, others)
+    match others(alloc, Separator::Between(joint), room, first.rest) {
+        Ok(others) => chain_made(alloc, joint, room, first.expr, first.height, others),
+        Err(fault) => {
+            drop(first);
+            Err(fault)
+        }
+    }
 }
 
 /// The chain of these, or the first where it is alone.

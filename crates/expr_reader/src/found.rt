@@ -48,6 +48,7 @@ pub(crate) fn within(
     if height <= room {
         Ok(FoundExpr { expr, height, rest })
     } else {
+        drop(expr);
         Err(ReadFault::Refused(Refusal::TooHigh))
     }
 }

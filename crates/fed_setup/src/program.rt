@@ -230,15 +230,24 @@ fn first_engine<'a, V: AllocGlobal + Surroundings>(
     };
     match add_asked_list(rt, &mut engine, asked.list) {
         Ok(()) => {}
-        Err(fault) => return Err(fault),
+        Err(fault) => {
+            drop(engine);
+            return Err(fault);
+        }
     }
     match add_places(rt, &mut engine, &asked.places) {
         Ok(()) => {}
-        Err(fault) => return Err(fault),
+        Err(fault) => {
+            drop(engine);
+            return Err(fault);
+        }
     }
     match set_up(rt.alloc(), &mut engine, asked.owner, asked.list) {
         Ok(()) => Ok(engine),
-        Err(fault) => Err(fault),
+        Err(fault) => {
+            drop(engine);
+            Err(fault)
+        }
     }
 }
 
@@ -289,6 +298,7 @@ pub fn begin<'a, V: AllocGlobal + Surroundings>(
     let script = match read_init(rt, asked.init) {
         Ok(script) => script,
         Err(fault) => {
+            drop(engine);
             return Err(NotBegun {
                 fault,
                 script: None,

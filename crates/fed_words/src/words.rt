@@ -202,19 +202,13 @@ fn port_option<'a>(alloc: Global) -> Arg<'a>
 fn with_beginning<'a>(alloc: Global, command: Command<'a>) -> Result<Command<'a>, AllocError>
     ensures { IfOk result (λ c. app_of c ≡ with_beginning (app_of command.entry)) }
 {
-    let owner = text_option(alloc, "owner", "NAME", OWNER_HELP);
-    let list = text_option(alloc, "list", "NAME", LIST_HELP);
-    let csv = texts_option(alloc, "csv", "NAME=PATH", CSV_HELP);
-    let jsonl = texts_option(alloc, "jsonl", "NAME=PATH", JSONL_HELP);
-    let sqlite = texts_option(alloc, "sqlite", "NAME=PATH", SQLITE_HELP);
-    let init = text_option(alloc, "init", "FILE", INIT_HELP);
     command
-        .arg(owner)?
-        .arg(list)?
-        .arg(csv)?
-        .arg(jsonl)?
-        .arg(sqlite)?
-        .arg(init)
+        .arg(text_option(alloc, "owner", "NAME", OWNER_HELP))?
+        .arg(text_option(alloc, "list", "NAME", LIST_HELP))?
+        .arg(texts_option(alloc, "csv", "NAME=PATH", CSV_HELP))?
+        .arg(texts_option(alloc, "jsonl", "NAME=PATH", JSONL_HELP))?
+        .arg(texts_option(alloc, "sqlite", "NAME=PATH", SQLITE_HELP))?
+        .arg(text_option(alloc, "init", "FILE", INIT_HELP))
 }
 
 // The command `run`.

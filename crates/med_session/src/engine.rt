@@ -117,11 +117,13 @@ impl<W: Wrapper2> Engine<W> {
         }
         let outcome = self.answer(sid, request);
         if write_reply(*self.seats.allocator(), sid.number, &outcome, out) {
+            drop(outcome);
             return Ok(());
         }
         if let Outcome::Fetched(name, _) = &outcome {
             self.lose(sid, name.as_str());
         }
+        drop(outcome);
         Ok(())
     }
 
@@ -245,8 +247,14 @@ impl<W: Wrapper2> Engine<W> {
             Command::Data(query) => {
                 let slots = &mut self.slots;
                 match run_select(slots, &self.catalog, &self.bound, alloc, user, &query) {
-                    Ok(set) => Outcome::Rows(set),
-                    Err(cause) => Outcome::Refused(cause),
+                    Ok(set) => {
+                        drop(query);
+                        Outcome::Rows(set)
+                    }
+                    Err(cause) => {
+                        drop(query);
+                        Outcome::Refused(cause)
+                    }
                 }
             }
             Command::Rows(write) => {
@@ -269,11 +277,15 @@ impl<W: Wrapper2> Engine<W> {
             Command::Cursor(statement) => self.turn(sid, statement),
             Command::Ddl(ddl) => {
                 let Ok(name) = String::from_str(alloc, user) else {
+                    drop(ddl);
                     return Outcome::Refused(Cause::OutOfMemory);
                 };
                 match self.alter(alloc, name.as_str(), &ddl) {
                     Ok(()) => Outcome::Changed(ddl),
-                    Err(cause) => Outcome::Refused(cause),
+                    Err(cause) => {
+                        drop(ddl);
+                        Outcome::Refused(cause)
+                    }
                 }
             }
         }

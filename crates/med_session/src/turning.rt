@@ -125,7 +125,11 @@ impl<W: Wrapper2> Engine<W> {
             → IfFetched result (λ name. MayBeUntold (shown W.meaning self.old) sid.number (sql text) name (shown W.meaning self.new)) }
     {
         match statement {
-            CursorStatement::Declare(declare) => self.declare(sid, &declare),
+            CursorStatement::Declare(declare) => {
+                let outcome = self.declare(sid, &declare);
+                drop(declare);
+                outcome
+            }
             CursorStatement::Fetch(fetch) => self.fetch(sid, fetch),
             CursorStatement::Close(close) => self.close(sid, close.name.as_str()),
         }

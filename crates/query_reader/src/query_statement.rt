@@ -126,8 +126,13 @@ fn value(alloc: Global, room: u32, symbols: Symbols<'_>) -> Result<(Item, Symbol
     ensures { ReadsAs (λ x. (item_tree x.0, terminals_of x.1.now)) result (reading.value_item room (terminals_of symbols.now)) }
 {
     let found = whole(alloc, room, symbols)?;
-    let (label, rest) = label(alloc, found.rest)?;
-    Ok((Item::Expression(found.expr, label), rest))
+    match label(alloc, found.rest) {
+        Ok((label, rest)) => Ok((Item::Expression(found.expr, label), rest)),
+        Err(fault) => {
+            drop(found);
+            Err(fault)
+        }
+    }
 }
 
 /// The item at the front, and the symbols behind it.
@@ -320,6 +325,7 @@ pub fn line(alloc: Global, room: u32, symbols: Symbols<'_>) -> Result<Statement,
     if is_end(rest) {
         Ok(statement)
     } else {
+        drop(statement);
         Err(ReadFault::Refused(Refusal::Syntax))
     }
 }

@@ -24,7 +24,10 @@ fn bounded(alloc: Global, symbols: Symbols<'_>) -> Result<Statement, ReadFault>
                 return Err(ReadFault::Refused(Refusal::TooHigh));
             }
             match line(alloc, ROOM, symbols) {
-                Ok(_) => Err(ReadFault::Refused(Refusal::TooHigh)),
+                Ok(statement) => {
+                    drop(statement);
+                    Err(ReadFault::Refused(Refusal::TooHigh))
+                }
                 Err(ReadFault::Refused(_)) => Err(ReadFault::Refused(Refusal::Syntax)),
                 Err(ReadFault::NoMemory) => Err(ReadFault::NoMemory),
             }

@@ -231,15 +231,20 @@ fn served<W: Wrapper2>(
     requires idle { IsIdle (W.meaning source) }
     requires takes { TakesAs kind (W.meaning source) }
 {
+    let mut out = Vec::new(alloc);
+    let rows = format!(in alloc; "{MADE}{rows}")?;
     let mut engine = Engine::<W>::new(alloc, "admin")?;
     match engine.add_source("files", kind, source) {
         Ok(()) => {}
-        Err((_, fault)) => return Err(Fail::from(fault)),
+        Err((_, fault)) => {
+            drop(engine);
+            return Err(Fail::from(fault));
+        }
     }
-    let mut out = Vec::new(alloc);
-    let rows = format!(in alloc; "{MADE}{rows}")?;
-    replies_to_all(&mut engine, over, &rows, &mut out)?;
-    Ok(ledger_at(&engine.finish().slots, 0))
+    let told = replies_to_all(&mut engine, over, &rows, &mut out);
+    let counts = ledger_at(&engine.finish().slots, 0);
+    told?;
+    Ok(counts)
 }
 
 // Fails where a scan is live, or other failures are counted.

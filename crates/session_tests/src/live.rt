@@ -3,6 +3,7 @@ ghost use Rattle.med_session.specs.Prelude.{IsSound, shown};
 
 use crate::expect::same_text;
 use crate::served::{ask, engine_over, in_failing, new_list, request_of};
+use fdw_api::interface::Counts;
 use fdw_api::wishes::Wrapper2;
 use fed_setup::told::RunFault;
 use med_session::Engine;
@@ -79,7 +80,9 @@ fn live_scans_are_those_of_open_cursors(rt: HostRuntime) -> Result<(), Fail> {
     let alloc = rt.alloc();
     let mut out = Vec::new(alloc);
     let mut engine = engine_over(alloc, new_list(alloc)?)?;
-    leaves_each(alloc, &mut engine, &mut out)
+    let told = leaves_each(alloc, &mut engine, &mut out);
+    drop(engine);
+    told
 }
 
 // Rows `scans rows | query`: how many scans are begun, and how many rows these give. parts has three rows, of which id is 1, 2 and 3, and qty 10, NULL and
@@ -136,14 +139,27 @@ fn asks_all<W: Wrapper2>(
     Ok(())
 }
 
+// What the list counts when session 1 was opened, and statements were answered in it.
+fn counted<W: Wrapper2>(
+    alloc: Global,
+    engine: &mut Engine<W>,
+    statements: &str,
+) -> Result<Counts, Fail>
+    requires { IsSound (shown W.meaning engine.old) }
+{
+    let mut out = Vec::new(alloc);
+    asks_all(engine, "OPEN", &mut out)?;
+    asks_all(engine, statements, &mut out)?;
+    Ok(engine.counts("demo").ok_or(statements)?)
+}
+
 // What a list that fails once, after so many calls, counts when statements were answered: the scans begun, those that are live, the rows given and the faults.
 fn counts(alloc: Global, calls: u64, statements: &str) -> Result<String, Fail> {
-    let mut out = Vec::new(alloc);
     let list = in_failing(new_list(alloc)?, calls);
     let mut engine = engine_over(alloc, list)?;
-    asks_all(&mut engine, "OPEN", &mut out)?;
-    asks_all(&mut engine, statements, &mut out)?;
-    let counts = engine.counts("demo").ok_or(statements)?;
+    let counted = counted(alloc, &mut engine, statements);
+    drop(engine);
+    let counts = counted?;
     Ok(format!(in alloc;
         "{} {} {} {}",
         counts.next, counts.live, counts.pulled, counts.faults
@@ -193,9 +209,10 @@ fn dropped_source_is_gone(rt: HostRuntime) -> Result<(), Fail> {
     let mut out = Vec::new(alloc);
     let mut engine = engine_over(alloc, new_list(alloc)?)?;
     assert!(rt; engine.counts("demo").is_some() && engine.counts("other").is_none());
-    asks_all(&mut engine, DROPS, &mut out)?;
+    let told = asks_all(&mut engine, DROPS, &mut out);
     assert!(rt; engine.counts("demo").is_none());
     let slots = engine.finish().slots;
+    told?;
     assert!(rt; slots.len() == 1 && slots[0].is_none());
     Ok(())
 }

@@ -127,6 +127,11 @@ pub fn engine_over<W: Wrapper2>(alloc: Global, list: W) -> Result<Engine<W>, Run
     let Ok(mut engine) = Engine::<W>::new(alloc, "admin") else {
         return Err(RunFault::NoMemory);
     };
-    add_demo(alloc, &mut engine, "admin", "demo", list)?;
-    Ok(engine)
+    match add_demo(alloc, &mut engine, "admin", "demo", list) {
+        Ok(()) => Ok(engine),
+        Err(fault) => {
+            drop(engine);
+            Err(fault)
+        }
+    }
 }

@@ -320,8 +320,10 @@ fn ends<W: Wrapper2>(
     requires { IsSound (shown W.meaning engine) }
 {
     let mut engine = engine;
-    ends_by_lines(case, &mut engine, says_bye, refusals, out)?;
-    is_at_rest(case, ledger_at(&engine.finish().slots, 0), refusals)
+    let told = ends_by_lines(case, &mut engine, says_bye, refusals, out);
+    let counts = ledger_at(&engine.finish().slots, 0);
+    told?;
+    is_at_rest(case, counts, refusals)
 }
 
 // A conversation over a list, and the end of its sessions. Tells how many requests were refused.
@@ -336,9 +338,16 @@ fn talks_over<W: Wrapper2>(
 {
     let mut out = Vec::new(alloc);
     let mut engine = engine_over(alloc, list)?;
-    let refusals = follows_all(case, &mut engine, talk, &mut out)?;
-    ends(case, engine, says_bye, refusals, &mut out)?;
-    Ok(refusals)
+    match follows_all(case, &mut engine, talk, &mut out) {
+        Ok(refusals) => {
+            ends(case, engine, says_bye, refusals, &mut out)?;
+            Ok(refusals)
+        }
+        Err(fault) => {
+            drop(engine);
+            Err(fault)
+        }
+    }
 }
 
 // The same over the list in a box of this name, of which the call after so many fails.

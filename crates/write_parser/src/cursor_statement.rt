@@ -96,8 +96,12 @@ fn plain_line(alloc: Global, tokens: Tokens<'_>) -> Result<CursorStatement, Read
 {
     match plain(alloc, tokens) {
         Ok((statement, rest)) if is_end(rest) => Ok(statement),
+        Ok((statement, _)) => {
+            drop(statement);
+            Err(ReadFault::Refused(Refusal::Syntax))
+        }
         Err(ReadFault::NoMemory) => Err(ReadFault::NoMemory),
-        _ => Err(ReadFault::Refused(Refusal::Syntax)),
+        Err(ReadFault::Refused(_)) => Err(ReadFault::Refused(Refusal::Syntax)),
     }
 }
 

@@ -194,6 +194,7 @@ fn line(alloc: Global, room: u32, symbols: Symbols<'_>) -> Result<WriteStatement
     if ends(rest) {
         Ok(statement)
     } else {
+        drop(statement);
         Err(ReadFault::Refused(Refusal::Syntax))
     }
 }
@@ -203,7 +204,10 @@ fn wide_fault(alloc: Global, symbols: Symbols<'_>) -> ReadFault
     ensures { ReadsAs write_tree (Err result) (again (reading.plain_line 455 (terminals_of symbols.now))) }
 {
     match line(alloc, ROOM, symbols) {
-        Ok(_) => ReadFault::Refused(Refusal::TooHigh),
+        Ok(statement) => {
+            drop(statement);
+            ReadFault::Refused(Refusal::TooHigh)
+        }
         Err(ReadFault::Refused(_)) => ReadFault::Refused(Refusal::Syntax),
         Err(ReadFault::NoMemory) => ReadFault::NoMemory,
     }

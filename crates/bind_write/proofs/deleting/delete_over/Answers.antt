@@ -14,7 +14,7 @@ use Rattle.bind_write.proofs.deleting.delete_over.Goals as goal
 pub returns-in_err-target : goal.returns-in_err-target
 returns-in_err-target c =
     let o = objects c.args.catalog.now in
-    let d = delete_tree c.args.statement in
+    let d = delete_tree c.args.statement.now in
     let p = err_from_is_err_and c.from_residual.result c.from_residual.ensures.1 in
     rw (p.1, p.2) (target_told (target_causes (shapes o) d.entry.table) (target_causes (shapes o) d.entry.table) _ (target_right_causes o c.args.user.now d.entry.table) [] (types_of o (delete d)) _ (λ x h. h)
     (rw c.as_str.ensures.value at c.in_err-target.ensures))
@@ -23,7 +23,7 @@ pub returns-in_err-found : goal.returns-in_err-found
 returns-in_err-found c =
     let o = objects c.args.catalog.now in
     let b = map attached c.args.bound.now in
-    let d = delete_tree c.args.statement in
+    let d = delete_tree c.args.statement.now in
     let is : IsTarget o b c.args.user.now d.entry.table c.in_ok-target.target = rw c.as_str.ensures.value at c.in_ok-target.ensures in
     let seen = scope_same o b c.args.user.now d.entry c.in_ok-target.target c.table_in_view.result is c.table_in_view.ensures in
     let p = err_from_is_err_and c.from_residual-in_err-found.result c.from_residual-in_err-found.ensures.1 in
@@ -33,7 +33,7 @@ pub returns : goal.returns
 returns c =
     let o = objects c.args.catalog.now in
     let b = map attached c.args.bound.now in
-    let d = delete_tree c.args.statement in
+    let d = delete_tree c.args.statement.now in
     let is : IsTarget o b c.args.user.now d.entry.table c.in_ok-target.target = rw c.as_str.ensures.value at c.in_ok-target.ensures in
     let seen = scope_same o b c.args.user.now d.entry c.in_ok-target.target c.table_in_view.result is c.table_in_view.ensures in
     let found = bound_over (scope_in (shapes o) d.entry) _ [] [] d.condition _ seen refl c.in_ok-found.ensures in

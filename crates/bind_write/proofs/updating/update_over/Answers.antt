@@ -2,7 +2,7 @@ use Rattle.std.proofs.Common.{ap, sym, refl, map, option_map, string_bytes, ◌�
 use Rattle.std.proofs.lemmas.Result.{err_from_is_err_and}
 use Rattle.med_value.specs.Column.{column_of}
 use Rattle.med_value.specs.declared.cause.Cause.TheVariants.{MisplacedName}
-use Rattle.med_syntax.specs.Prelude.{expr_tree, update, update_tree}
+use Rattle.med_syntax.specs.Prelude.{UpdateTree, entry_tree, expr_tree, set_tree, update}
 use Rattle.tri_expr.specs.Tree.{tree}
 use Rattle.med_catalog.specs.View.{objects}
 use Rattle.bind_names.proofs.Causes.{tells_same}
@@ -20,7 +20,7 @@ use Rattle.bind_write.proofs.updating.update_over.Goals as goal
 pub returns-in_err-target : goal.returns-in_err-target
 returns-in_err-target c =
     let o = objects c.args.catalog.now in
-    let u = update_tree c.args.statement in
+    let u : UpdateTree = record { entry = entry_tree c.args.entry.now; sets = map set_tree c.args.sets.items; condition = option_map expr_tree c.args.condition.now } in
     let p = err_from_is_err_and c.from_residual.result c.from_residual.ensures.1 in
     rw (p.1, p.2) (target_told (target_causes (shapes o) u.entry.table) (target_causes (shapes o) u.entry.table) _ (target_right_causes o c.args.user.now u.entry.table) [] (types_of o (update u)) _ (λ x h. h)
     (rw c.as_str.ensures.value at c.in_err-target.ensures))
@@ -29,7 +29,7 @@ pub returns-in_err-check_list : goal.returns-in_err-check_list
 returns-in_err-check_list c =
     let o = objects c.args.catalog.now in
     let b = map attached c.args.bound.now in
-    let u = update_tree c.args.statement in
+    let u : UpdateTree = record { entry = entry_tree c.args.entry.now; sets = map set_tree c.args.sets.items; condition = option_map expr_tree c.args.condition.now } in
     let target = c.in_ok-target.target in
     let is : IsTarget o b c.args.user.now u.entry.table target = rw c.as_str.ensures.value at c.in_ok-target.ensures in
     let names = ap (map string_bytes) c.as_slice.ensures.value ∙ c.in_ok-names.ensures.names in
@@ -41,7 +41,7 @@ pub returns-in_err-found : goal.returns-in_err-found
 returns-in_err-found c =
     let o = objects c.args.catalog.now in
     let b = map attached c.args.bound.now in
-    let u = update_tree c.args.statement in
+    let u : UpdateTree = record { entry = entry_tree c.args.entry.now; sets = map set_tree c.args.sets.items; condition = option_map expr_tree c.args.condition.now } in
     let target = c.in_ok-target.target in
     let is : IsTarget o b c.args.user.now u.entry.table target = rw c.as_str.ensures.value at c.in_ok-target.ensures in
     let names = ap (map string_bytes) c.as_slice.ensures.value ∙ c.in_ok-names.ensures.names in
@@ -56,7 +56,7 @@ pub returns-in_err-check_cells : goal.returns-in_err-check_cells
 returns-in_err-check_cells c =
     let o = objects c.args.catalog.now in
     let b = map attached c.args.bound.now in
-    let u = update_tree c.args.statement in
+    let u : UpdateTree = record { entry = entry_tree c.args.entry.now; sets = map set_tree c.args.sets.items; condition = option_map expr_tree c.args.condition.now } in
     let target = c.in_ok-target.target in
     let is : IsTarget o b c.args.user.now u.entry.table target = rw c.as_str.ensures.value at c.in_ok-target.ensures in
     let names = ap (map string_bytes) c.as_slice.ensures.value ∙ c.in_ok-names.ensures.names in
@@ -78,7 +78,7 @@ pub returns : goal.returns
 returns c =
     let o = objects c.args.catalog.now in
     let b = map attached c.args.bound.now in
-    let u = update_tree c.args.statement in
+    let u : UpdateTree = record { entry = entry_tree c.args.entry.now; sets = map set_tree c.args.sets.items; condition = option_map expr_tree c.args.condition.now } in
     let target = c.in_ok-target.target in
     let is : IsTarget o b c.args.user.now u.entry.table target = rw c.as_str.ensures.value at c.in_ok-target.ensures in
     let names = ap (map string_bytes) c.as_slice.ensures.value ∙ c.in_ok-names.ensures.names in

@@ -27,8 +27,8 @@ returns-in-Ok-set_up-clause-first g c =
     (set.0, set.2, first_made _ owner (list_asked asked) (places_asked asked) _ _ _ _ (is_empty owner _ nothing.1) listed.1 added.1 set.1)
 
 -- the list was not
-pub returns-clause-refused : goal.returns-clause-refused
-returns-clause-refused g c =
+pub returns-in-Err-set_up-clause-refused : goal.returns-in-Err-set_up-clause-refused
+returns-in-Err-set_up-clause-refused g c =
     let asked = c.args.asked.now in
     let owner = asked.owner.now in
     let nothing = nothing_there _ owner c.in-Ok.ensures.sound c.in-Ok.ensures.empty in

@@ -17,7 +17,7 @@ returns-clause-answered g c =
     let out = c.write_reply.new.out.items in
     let o = c.answer-outcome.result in
     let told = not_told sid (reply_of o) c.write_reply.result old out (rw c.reserve.ensures.items at c.write_reply.ensures) c.if-write_reply.false in
-    elim c.match-outcome-3.branch [
+    elim c.match-outcome.branch [
       | in-Fetched w ↦
           let untold = of_fetch o w.in-Fetched.name w.in-Fetched.field-1 _ w.in-Fetched.is c.answer-outcome.ensures.untold in
           let lost = untold.lost (shown m w.lose.new.self) (rw w.as_str.ensures.value at w.lose.ensures.lost) in

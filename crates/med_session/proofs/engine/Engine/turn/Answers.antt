@@ -9,10 +9,10 @@ use Rattle.med_session.proofs.engine.Engine.turn.Goals as goal
 
 pub returns-in-Declare-clause-leads : goal.returns-in-Declare-clause-leads
 returns-in-Declare-clause-leads g c = λ text user read.
-    c.declare.ensures.leads text user (subst (λ (s : CursorStatement). IsRead (shown g.W.Wrapper.meaning c.args.self.now) c.args.sid.number text user (on_cursors (cursor_tree s))) c.in-Declare.is read)
+    c.declare-outcome.ensures.leads text user (subst (λ (s : CursorStatement). IsRead (shown g.W.Wrapper.meaning c.args.self.now) c.args.sid.number text user (on_cursors (cursor_tree s))) c.in-Declare.is read)
 
 pub returns-in-Declare-clause-untold : goal.returns-in-Declare-clause-untold
-returns-in-Declare-clause-untold g c = λ text user read. never c.declare.result _ c.declare.ensures.told
+returns-in-Declare-clause-untold g c = λ text user read. never c.declare-outcome.result _ c.declare-outcome.ensures.told
 
 pub returns-in-Fetch-clause-leads : goal.returns-in-Fetch-clause-leads
 returns-in-Fetch-clause-leads g c = λ text user read.
