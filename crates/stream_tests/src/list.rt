@@ -14,10 +14,16 @@ use std::alloc::Global;
 pub fn demo_engine(alloc: Global) -> Result<Engine<ListWrapper>, RunFault<'static>>
     ensures { IfOk result (λ engine. IsSound (shown box_of engine)) }
 {
+    let list = ListWrapper::new(alloc, demo_tables(alloc)?)?;
     let Ok(mut engine) = Engine::<ListWrapper>::new(alloc, "admin") else {
+        drop(list);
         return Err(RunFault::NoMemory);
     };
-    let list = ListWrapper::new(alloc, demo_tables(alloc)?)?;
-    add_demo(alloc, &mut engine, "admin", "demo", list)?;
-    Ok(engine)
+    match add_demo(alloc, &mut engine, "admin", "demo", list) {
+        Ok(()) => Ok(engine),
+        Err(fault) => {
+            drop(engine);
+            Err(fault)
+        }
+    }
 }

@@ -256,11 +256,17 @@ fn engine_over<W: Wrapper2>(alloc: Global, list: W) -> Result<Engine<W>, Fail>
     let mut engine = Engine::<W>::new(alloc, "admin")?;
     match engine.add_source("random", SourceKind::List, list) {
         Ok(()) => {}
-        Err((_, fault)) => return Err(Fail::from(fault)),
+        Err((_, fault)) => {
+            drop(engine);
+            return Err(Fail::from(fault));
+        }
     }
     match make_both(alloc, &mut engine) {
         Ok(()) => Ok(engine),
-        Err(fault) => Err(fault),
+        Err(fault) => {
+            drop(engine);
+            Err(fault)
+        }
     }
 }
 
@@ -268,8 +274,8 @@ fn engine_over<W: Wrapper2>(alloc: Global, list: W) -> Result<Engine<W>, Fail>
 fn replied_over<W: Wrapper2>(alloc: Global, list: W, query: &str) -> Result<Vec<u8>, Fail>
     requires { IsIdle (W.meaning list) × TakesAs Lists (W.meaning list) }
 {
-    let engine = engine_over(alloc, list)?;
     let stream = format!(in alloc; "1 OPEN ann\n1 Q {query}\n")?;
+    let engine = engine_over(alloc, list)?;
     let mut out = Vec::new(alloc);
     let (ended, _) = serve_engine(alloc, engine, &mut stream.as_bytes(), &mut out);
     if ended != Ok(Ended::Eof) {
@@ -396,12 +402,16 @@ fn is_same(alloc: Global, is_ordered: bool, one: &[u8], other: &[u8]) -> Result<
     Ok(sorted_lines(alloc, one)? == sorted_lines(alloc, other)?)
 }
 
-// Fails at the first seed at which the engine's reply is another than the one that is defined.
-fn replies_as_defined(alloc: Global, is_ordered: bool, query: &str) -> Result<(), Fail> {
-    let bound = bound(alloc, query)?;
+// Fails at the first seed at which the engine's reply is another than the one that is defined for the query as it is bound.
+fn replies_as_bound(
+    alloc: Global,
+    is_ordered: bool,
+    query: &str,
+    bound: &BoundQuery,
+) -> Result<(), Fail> {
     for seed in 0..SEEDS {
         let came = replied(alloc, query, seed)?;
-        let wanted = defined(alloc, &bound, seed)?;
+        let wanted = defined(alloc, bound, seed)?;
         if !is_same(alloc, is_ordered, &came, &wanted)? {
             let came = from_utf8(&came).unwrap_or("no text");
             let wanted = from_utf8(&wanted).unwrap_or("no text");
@@ -411,6 +421,14 @@ fn replies_as_defined(alloc: Global, is_ordered: bool, query: &str) -> Result<()
         }
     }
     Ok(())
+}
+
+// The same of a query as it is written.
+fn replies_as_defined(alloc: Global, is_ordered: bool, query: &str) -> Result<(), Fail> {
+    let bound = bound(alloc, query)?;
+    let told = replies_as_bound(alloc, is_ordered, query, &bound);
+    drop(bound);
+    told
 }
 
 #[test]

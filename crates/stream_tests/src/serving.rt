@@ -235,7 +235,10 @@ fn tight_server(
     };
     match Server::new(alloc, handler) {
         Ok(server) => Ok(server),
-        Err(_) => Err(RunFault::NoMemory),
+        Err(refused) => {
+            drop(refused);
+            Err(RunFault::NoMemory)
+        }
     }
 }
 
@@ -270,9 +273,9 @@ fn feeds(alloc: Global, wanted: Fed) -> Result<(), Fail> {
         server.feed(STORED, &mut out),
         server.feed(b"1 BYE\n", &mut out),
     );
+    let counts = ledger_at(&server.finish().inner.finish().slots, 0);
     same(&case, &came, &(first, second))?;
     same_text(&case, &out, &ALL[..length.min(ALL.len())])?;
-    let counts = ledger_at(&server.finish().inner.finish().slots, 0);
     let counted = counts.map(|counts| (counts.next, counts.live));
     same(&case, &counted, &Some((scans, 0)))
 }
@@ -291,8 +294,10 @@ fn no_room_for_a_request_ends_the_stream_before_its_reply(rt: HostRuntime) -> Re
     let mut out = Vec::new(rt.alloc());
     let mut input = STORED;
     let ended = serve_stream(rt.alloc(), &mut server, &mut input, &mut out);
+    let is_closed = server.is_closed();
+    drop(server);
     same("the end", &ended, &Err(StreamFault::NoRoom))?;
-    same("closed", &server.is_closed(), &true)?;
+    same("closed", &is_closed, &true)?;
     same_text("the replies", &out, b"1 T OPEN\n")
 }
 
@@ -316,7 +321,9 @@ fn came(alloc: Global, script: &[u8]) -> Result<(Result<u64, ScriptFault>, Vec<u
     let mut engine = demo_engine(alloc)?;
     let came = replay(&mut engine, "admin", script);
     let mut out = Vec::new(alloc);
-    engine.request(Sid { number: 64 }, Request::Open("ann"), &mut out)?;
+    let asked = engine.request(Sid { number: 64 }, Request::Open("ann"), &mut out);
+    drop(engine);
+    asked?;
     Ok((came, out))
 }
 
