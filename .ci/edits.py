@@ -61,8 +61,9 @@ def function_of(crate, path, text, head):
     calls, or calls itself; whether a copy of it can stand beside it; the name that `--only` takes; how a check's line of it begins (a method's under the module
     of its type, which may be another than this file's); the folder of its proof; its file, the words of its text, its lines, and its body's place there."""
     kind = type_around(text, head)
-    # (that of a law can be empty)
-    body = re.compile(rf"^{head[1]}(?:\S[^\n]*)?\{{(\n.*?^{head[1]}|)\}}\n", re.M | re.S).search(text, head.start())
+    # (an edit can begin on the head's own line, and that of a law can be empty)
+    body = re.compile(rf"{head[1]}\S[^\n]*?\{{( [^\n]*\n.*?^{head[1]})\}}\n", re.M | re.S).match(text, head.start())
+    body = body or re.compile(rf"^{head[1]}(?:\S[^\n]*)?\{{(\n.*?^{head[1]}|)\}}\n", re.M | re.S).search(text, head.start())
     if kind is None or not body:
         return None
     module = "" if path == "src/lib.rt" else path[4:-3].removesuffix("/mod").replace("/", "::") + "::"
