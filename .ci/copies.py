@@ -13,6 +13,11 @@ taken = ?
 pub {name}_spec : {{M : Type 1}} → stated.statement M
 {name}_spec = taken
 """
+# An answer to a goal that no function has. For each goal that a check leaves open it searches once more, to offer a file for the function's proof; but for none
+# of a function of which it refuses an answer. Whether a goal is open the refusal of this one changes nothing of.
+REFUSED = """pub {answer} : {goal}.{answer}
+{answer} c = tt
+"""
 
 def functions(crate):
     """The crate's functions, as the library that was built of it names them."""
@@ -27,6 +32,17 @@ def files_of(crate, name):
     """The files of a function's proof, by their paths in the crate."""
     found = glob.glob(f"{glob.escape(crate.folder)}/proofs/{name.replace('.', '/')}/*.antt")
     return {os.path.relpath(it, crate.folder): where.text_of(it) for it in found}
+
+def with_refused(crate, name, text):
+    """A function's answers with one that is refused: their text, or None where it has others and none that names its goals."""
+    goal = re.search(r"^use \S+\.Goals as (\S+)$", text or f"use Rattle.{crate.name}.proofs.{name}.Goals as goal", re.M)
+    return goal and f"{text or f'{goal[0]}{chr(10)}'}\n{REFUSED.format(answer=where.REFUSED, goal=goal[1])}"
+
+def proofs_in(crate, functions, at):
+    """Below which name the proof stands of a function that is edited where it is, or None where that cannot be told."""
+    found = {os.path.relpath(it, f"{crate.folder}/proofs").replace("/", ".") for it in glob.glob(f"{glob.escape(crate.folder)}/proofs/**/", recursive=True)}
+    found = [it for it in found if re.fullmatch(at.folder, f"proofs/{it.replace('.', '/')}/")] if at.in_cycle else [name_in(functions, at)]
+    return found[0] if len(found) == 1 and not at.calls_itself else None
 
 class Copy:
     """A function as it stands with an edit, or as it is, under another name: its text, the files of its proof by their paths, and which the edit changes."""
@@ -89,6 +105,12 @@ def of_group(crate, functions, group):
         files |= {**stated, path: beside(crate, path, text, own)}
         places |= places_in(crate, path, files[path], own, stay)
     files |= {path: it for copy in made for path, it in copy.proof.items()}
+    for name, at in [*((it.name, places[it.edit]) for it in made), *((proofs_in(crate, functions, at), places[it]) for it, at in stay.items())]:
+        answers, proof = (f"proofs/{(name or '').replace('.', '/')}/{it}.antt" for it in ("Answers", "Proof"))
+        of_crate = f"{crate.folder}/{answers}"
+        text = files.get(answers) or (where.text_of(of_crate) if os.path.isfile(of_crate) else "")
+        if name and proof not in files and not os.path.isfile(f"{crate.folder}/{proof}") and (more := with_refused(crate, name, text)):
+            files[answers], at.made = more, None if text else answers
     changed = {path for it in (texts, *(copy.changed for copy in made)) for path in it} | {it.at.path for it in made}
     unchanged = places.pop(None, None)
     return argparse.Namespace(files=files, changed=changed, places=places, unchanged=unchanged)

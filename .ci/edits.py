@@ -4,6 +4,8 @@ import argparse, glob, os, re
 # Why a refusal shows little, in the kit's words; and what it tells of a proof file then (a name of a goal that is gone, or what cites that proof).
 LITTLE = "only because a proof file names what the edit took away"
 NAMES = re.compile(r"has no field|is not in scope|has no `")
+# The name of an answer to a goal that no function has, which a check is to refuse.
+REFUSED = "no-goal-has-this-name"
 # Of so many edits at most one check tries copies.
 MOST = 60
 # Methods that are called also where nothing names them: by `?`, and by comparisons.
@@ -59,7 +61,8 @@ def type_around(text, head):
 def function_of(crate, path, text, head):
     """What a check tells of the function that begins here, or None where that cannot be said: its number in its file, its name, and whether it is in a cycle of
     calls, or calls itself; whether a copy of it can stand beside it; the name that `--only` takes; how a check's line of it begins (a method's under the module
-    of its type, which may be another than this file's); the folder of its proof; its file, the words of its text, its lines, and its body's place there."""
+    of its type, which may be another than this file's); the folder of its proof, and a file that was made there for the check alone; its file, the words of its
+    text, its lines, and its body's place there."""
     kind = type_around(text, head)
     # (an edit can begin on the head's own line, and that of a law can be empty)
     body = re.compile(rf"{head[1]}\S[^\n]*?\{{( [^\n]*\n.*?^{head[1]})\}}\n", re.M | re.S).match(text, head.start())
@@ -80,7 +83,7 @@ def function_of(crate, path, text, head):
     return argparse.Namespace(
         who=f"{path} {number}", number=number, name=head[2], in_cycle=bool(cycle), calls_itself=calls_itself,
         has_copies=not (cycle or is_of_trait or calls_itself), only=f"{kind}::{head[2]}" if kind else f"{module}{head[2]}",
-        begins=rf"^fn {crate.name}::{under.replace('/', '::')}{head[2]}: (.*)$", folder=rf"(?:\./)?proofs/{proofs}",
+        begins=rf"^fn {crate.name}::{under.replace('/', '::')}{head[2]}: (.*)$", folder=rf"(?:\./)?proofs/{proofs}", made=None,
         path=path, words={*re.findall(r"\w+", text[start : body.end()])} - {head[2]},
         lines=range(text.count("\n", 0, start) + 1, text.count("\n", 0, body.end()) + 1), body=body.span(1))
 
@@ -184,9 +187,9 @@ def refused_alone(group, told):
         if len(lines) == 1:
             # (else the name is that of several functions; the functions of a cycle have one proof, in which a goal's name begins with its function's)
             goals += [line for line in lines if "`search` did not prove" in line and not at.in_cycle]
-            errors = re.findall(rf"^(?:note: )?{at.folder}\S*?:\d+:\d+: error: ({f'`{at.name}-' if at.in_cycle else ''}.*)$", told, re.M)
-        # (that something is not admitted tells of that, and not of this proof)
-        errors = [it for it in errors if "was not admitted" not in it]
+            errors = re.findall(rf"^(?:note: )?(?:\./)?({at.folder}\S*?):\d+:\d+: error: ({f'`{at.name}-' if at.in_cycle else ''}.*)$", told, re.M)
+        # (that something is not admitted tells of that, and not of this proof; nor does the answer that is to be refused)
+        errors = [it for path, it in errors if "was not admitted" not in it and f"`{REFUSED}`" not in it and path.removeprefix("./") != at.made]
         little = not goals and all(map(NAMES.search, errors))
         if (goals or errors) and not any(is_whole(it) for it in lines):
             refused[edit] = f"{(goals or errors)[0][:160]}{f' ({LITTLE})' if little else ''}"
@@ -197,9 +200,10 @@ def is_whole(line):
     return line == "proved" or line.startswith(("no holes", "depends on a hole in "))
 
 def is_whole_at(at, told):
-    """Whether a check tells of this function, and that nothing of its own is left to prove."""
+    """Whether a check tells of this function, and that nothing of its own is left to prove but the answer that is to be refused."""
     lines = re.findall(at.begins, told, re.M)
-    return len(lines) == 1 and is_whole(lines[0]) and not refused_alone({None: at}, told)
+    is_left = re.search(rf"^(?:note: )?{at.folder}\S*?:\d+:\d+: error: `{REFUSED}`", told, re.M) and lines[0].startswith("not proved")
+    return len(lines) == 1 and (is_left or is_whole(lines[0])) and not refused_alone({None: at}, told)
 
 def errors_elsewhere(places, told):
     """The files in which a check tells of an error, and that are not of the proofs of these functions."""
