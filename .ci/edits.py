@@ -202,8 +202,8 @@ def is_whole(line):
 def is_whole_at(at, told):
     """Whether a check tells of this function, and that nothing of its own is left to prove but the answer that is to be refused."""
     lines = re.findall(at.begins, told, re.M)
-    is_left = re.search(rf"^(?:note: )?{at.folder}\S*?:\d+:\d+: error: `{REFUSED}`", told, re.M) and lines[0].startswith("not proved")
-    return len(lines) == 1 and (is_left or is_whole(lines[0])) and not refused_alone({None: at}, told)
+    is_left = re.search(rf"^(?:note: )?{at.folder}\S*?:\d+:\d+: error: `{REFUSED}`", told, re.M)
+    return len(lines) == 1 and (is_whole(lines[0]) or is_left and lines[0].startswith("not proved")) and not refused_alone({None: at}, told)
 
 def errors_elsewhere(places, told):
     """The files in which a check tells of an error, and that are not of the proofs of these functions."""
