@@ -9,15 +9,11 @@ use tri_expr::SetFunction;
 pub fn function_named(name: &str) -> Option<SetFunction>
     ensures { result ≡ function_named name.now }
 {
-    if name == "count" {
-        Some(SetFunction::Count)
-    } else if name == "sum" {
-        Some(SetFunction::Sum)
-    } else if name == "min" {
-        Some(SetFunction::Min)
-    } else if name == "max" {
-        Some(SetFunction::Max)
-    } else {
-        None
+    match name {
+        "count" => Some(SetFunction::Count),
+        "sum" => Some(SetFunction::Sum),
+        "min" => Some(SetFunction::Min),
+        "max" => Some(SetFunction::Max),
+        _ => None,
     }
 }

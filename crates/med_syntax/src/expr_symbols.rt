@@ -54,28 +54,18 @@ fn plain_symbol(word: &str) -> Symbol<'_>
 fn word_symbol(word: &str) -> Symbol<'_>
     ensures { terminal_of_symbol result ≡ word_terminal word.now }
 {
-    if word == "and" {
-        Symbol::Joint(Joint::And)
-    } else if word == "or" {
-        Symbol::Joint(Joint::Or)
-    } else if word == "not" {
-        Symbol::Not
-    } else if word == "between" {
-        Symbol::Between
-    } else if word == "in" {
-        Symbol::In
-    } else if word == "is" {
-        Symbol::Is
-    } else if word == "like" {
-        Symbol::Like
-    } else if word == "null" {
-        Symbol::Null
-    } else if word == "true" {
-        Symbol::Truth(true)
-    } else if word == "false" {
-        Symbol::Truth(false)
-    } else {
-        plain_symbol(word)
+    match word {
+        "and" => Symbol::Joint(Joint::And),
+        "or" => Symbol::Joint(Joint::Or),
+        "not" => Symbol::Not,
+        "between" => Symbol::Between,
+        "in" => Symbol::In,
+        "is" => Symbol::Is,
+        "like" => Symbol::Like,
+        "null" => Symbol::Null,
+        "true" => Symbol::Truth(true),
+        "false" => Symbol::Truth(false),
+        _ => plain_symbol(word),
     }
 }
 

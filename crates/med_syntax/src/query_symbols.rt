@@ -37,9 +37,9 @@ fn is_keyword(place: Place, word: &str) -> bool
     ensures { result ≡ spec.is_one_of (spec.keywords_at place) word.now }
 {
     match place {
-        Place::Behind(true) => ["nulls"].contains(&word),
-        Place::Nulls => ["first", "last"].contains(&word),
-        Place::Counted => ["row", "rows"].contains(&word),
+        Place::Behind(true) => matches!(word, "nulls"),
+        Place::Nulls => matches!(word, "first" | "last"),
+        Place::Counted => matches!(word, "row" | "rows"),
         _ => false,
     }
 }
@@ -59,18 +59,13 @@ fn is_ordering(place: Place) -> bool
 fn behind_reserved(ordering: bool, word: &str) -> Place
     ensures { result ≡ spec.behind_reserved ordering word.now }
 {
-    if word == "as" {
-        Place::Label
-    } else if word == "order" {
-        Place::Before(true)
-    } else if word == "offset" {
-        Place::Offset
-    } else if word == "nulls" {
-        Place::Nulls
-    } else if ["asc", "desc"].contains(&word) {
-        Place::Behind(ordering)
-    } else {
-        Place::Before(ordering)
+    match word {
+        "as" => Place::Label,
+        "order" => Place::Before(true),
+        "offset" => Place::Offset,
+        "nulls" => Place::Nulls,
+        "asc" | "desc" => Place::Behind(ordering),
+        _ => Place::Before(ordering),
     }
 }
 
