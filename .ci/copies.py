@@ -25,7 +25,7 @@ def functions(crate):
 
 def name_in(functions, at):
     """What the crate's library names a function, or None where that cannot be told."""
-    found = [it for it in functions if re.fullmatch(at.folder, f"proofs/{it.replace('.', '/')}/")]
+    found = [it for it in functions if re.fullmatch(at.own, f"proofs/{it.replace('.', '/')}/")]
     return found[0] if len(found) == 1 else None
 
 def files_of(crate, name):
@@ -43,6 +43,11 @@ def proofs_in(crate, functions, at):
     found = {os.path.relpath(it, f"{crate.folder}/proofs").replace("/", ".") for it in glob.glob(f"{glob.escape(crate.folder)}/proofs/**/", recursive=True)}
     found = [it for it in found if re.fullmatch(at.folder, f"proofs/{it.replace('.', '/')}/")] if at.in_cycle else [name_in(functions, at)]
     return found[0] if len(found) == 1 and not at.calls_itself else None
+
+def of_cycle(crate, at):
+    """The files of the proof of a function's cycle of calls, by their paths in the crate: none of a function that is in none."""
+    found = glob.glob(f"{glob.escape(crate.folder)}/proofs/**/+{at.cycle}/*.antt", recursive=True) if at.in_cycle else []
+    return [os.path.relpath(it, crate.folder) for it in found]
 
 class Copy:
     """A function as it stands with an edit, or as it is, under another name: its text, the files of its proof by their paths, and which the edit changes."""
@@ -76,20 +81,24 @@ def copies_of(crate, functions, group):
 
 def by_statement(crate, functions, path, text, edited):
     """A file's text in which the functions that are not edited stand by their statements, their bodies a loop that never ends, since nothing of a body is asked
-    there but, in a crate that names `dyn`, which values a `dyn` type has; and what stands in place of their proofs, by path, None for a file that is gone."""
-    files, bodies = {}, []
+    there but, in a crate that names `dyn`, which values a `dyn` type has; and what stands in place of their proofs, by path, None for a file that is gone. With
+    such a body a function of a cycle of calls is in none: it stands so where none of that cycle is edited."""
+    files, bodies, gone, folders, cycles = {}, [], [], {it.folder for it in edited}, {it.cycle for it in edited}
     names_dyn = any(re.search(r"\bdyn\b", where.text_of(it)) for it in glob.glob(f"{glob.escape(crate.folder)}/src/**/*.rt", recursive=True))
     for head in where.HEAD.finditer(text):
         at = where.function_of(crate, path, text, head)
-        name = at and not at.in_cycle and at.folder not in edited and name_in(functions, at)
+        stays = at and (at.cycle in cycles or names_dyn if at.in_cycle else at.folder in folders)
+        name = at and not stays and name_in(functions, at)
         # (of a trait one that has no body has no proof; one that calls itself has it under another name, and calls itself no more)
         if name and at.body[0] >= max(bodies, default=(0, 0))[1] and not re.search(r";\s*\n", text[head.start() : at.body[0]]):
             below, dot, last = name.rpartition(".")
-            files |= dict.fromkeys([*files_of(crate, name), *(files_of(crate, f"{below}{dot}+{last}") if at.calls_itself else ())])
+            files |= dict.fromkeys([*files_of(crate, name), *(files_of(crate, f"{below}{dot}+{last}") if at.calls_itself else of_cycle(crate, at))])
             files[f"proofs/{name.replace('.', '/')}/Proof.antt"] = BY_STATEMENT.format(crate=crate.name, path=name, name=last)
             bodies.append(at.body)
-    for start, end in [] if names_dyn else reversed([it for it in bodies if it[0] < it[1]]):
-        text = f"{text[:start]}\n    loop {{}}\n{text[:end].rpartition(chr(10))[2]}{text[end:]}"
+            gone += [it.span() for it in re.finditer(r"^ *#\[cycle\(\w+\)\]\n", text[: head.start()], re.M)][-1:] if at.in_cycle else []
+    texts = [(start, end, f"\n    loop {{}}\n{text[:end].rpartition(chr(10))[2]}") for start, end in ([] if names_dyn else bodies) if start < end]
+    for start, end, new in sorted([*texts, *((start, end, "") for start, end in gone)], reverse=True):
+        text = f"{text[:start]}{new}{text[end:]}"
     return text, files
 
 def of_group(crate, functions, group):
@@ -98,9 +107,9 @@ def of_group(crate, functions, group):
     made, stay = copies_of(crate, functions, group), {it: at for it, at in group.items() if not at.has_copies}
     if (texts := where.applied(crate, [*stay])) is None:
         return None
-    files, places, edited = dict(texts), {}, {at.folder for at in stay.values()}
+    files, places = dict(texts), {}
     for path in sorted(os.path.relpath(it, crate.folder) for it in glob.glob(f"{glob.escape(crate.folder)}/src/**/*.rt", recursive=True)):
-        text, stated = by_statement(crate, functions, path, texts.get(path) or where.text_of(f"{crate.folder}/{path}"), edited)
+        text, stated = by_statement(crate, functions, path, texts.get(path) or where.text_of(f"{crate.folder}/{path}"), [*stay.values()])
         own = [it for it in made if it.at.path == path]
         files |= {**stated, path: beside(crate, path, text, own)}
         places |= places_in(crate, path, files[path], own, stay)

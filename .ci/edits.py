@@ -59,10 +59,10 @@ def type_around(text, head):
     return named and (named[1] or ("Any" if is_any else named[3]) + (named[2] or "") + given)
 
 def function_of(crate, path, text, head):
-    """What a check tells of the function that begins here, or None where that cannot be said: its number in its file, its name, and whether it is in a cycle of
-    calls, or calls itself; whether a copy of it can stand beside it; the name that `--only` takes; how a check's line of it begins (a method's under the module
-    of its type, which may be another than this file's); the folder of its proof, and a file that was made there for the check alone; its file, the words of its
-    text, its lines, and its body's place there."""
+    """What a check tells of the function that begins here, or None where that cannot be said: its number in its file, its name, and whether and in
+    which cycle of calls it is, or calls itself; whether a copy of it can stand beside it; the name that `--only` takes; the folder that its proof has where it is
+    in no cycle; how a check's line of it begins (a method's under the module of its type, which may be another than this file's); the folder of its proof, or of
+    its cycle's, and a file that was made there for the check alone; its file, the words of its text, its lines, and its body's place there."""
     kind = type_around(text, head)
     # (an edit can begin on the head's own line, and that of a law can be empty)
     body = re.compile(rf"{head[1]}\S[^\n]*?\{{( [^\n]*\n.*?^{head[1]})\}}\n", re.M | re.S).match(text, head.start())
@@ -81,8 +81,8 @@ def function_of(crate, path, text, head):
     is_of_trait = kind and re.search(r"\btrait\b|\bfor\b", above(text, head)[-1][0])
     calls_itself = not cycle and bool(re.search(rf"\b{head[2]}\b", body[1]) and glob.glob(f"{glob.escape(crate.folder)}/proofs/**/+{head[2]}", recursive=True))
     return argparse.Namespace(
-        who=f"{path} {number}", number=number, name=head[2], in_cycle=bool(cycle), calls_itself=calls_itself,
-        has_copies=not (cycle or is_of_trait or calls_itself), only=f"{kind}::{head[2]}" if kind else f"{module}{head[2]}",
+        who=f"{path} {number}", number=number, name=head[2], in_cycle=bool(cycle), cycle=cycle and cycle[1], calls_itself=calls_itself,
+        has_copies=not (cycle or is_of_trait or calls_itself), only=f"{kind}::{head[2]}" if kind else f"{module}{head[2]}", own=rf"(?:\./)?proofs/{under}{head[2]}/",
         begins=rf"^fn {crate.name}::{under.replace('/', '::')}{head[2]}: (.*)$", folder=rf"(?:\./)?proofs/{proofs}", made=None,
         path=path, words={*re.findall(r"\w+", text[start : body.end()])} - {head[2]},
         lines=range(text.count("\n", 0, start) + 1, text.count("\n", 0, body.end()) + 1), body=body.span(1))
@@ -145,7 +145,7 @@ def groups_of(crate, edits):
     return found, others
 
 def cycles_of(crate):
-    """The words of each function of the crate that is in a cycle of calls, by its name: these have their proofs in every check."""
+    """The words of each function of the crate that is in a cycle of calls, by its name: their proof stands in a check that edits one of them."""
     cycles = {}
     for path in glob.glob("src/**/*.rt", root_dir=crate.folder, recursive=True):
         text = text_of(f"{crate.folder}/{path}")
