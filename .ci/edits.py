@@ -174,7 +174,7 @@ def are_tied(at, other):
 
 def goals_at(at, told):
     """The goals that a check leaves open at a function's lines."""
-    notes = re.finditer(rf"^note: {re.escape(at.path)}:(\d+):\d+: (it is not proved .*)$", told, re.M)
+    notes = re.finditer(rf"^note: {re.escape(at.path)}:(\d+):\d+: ((?:it is not proved|`search` found no proof) .*)$", told, re.M)
     return [it[2] for it in notes if int(it[1]) in at.lines]
 
 def refused_alone(group, told):
