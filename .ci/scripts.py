@@ -6,8 +6,8 @@ usage: .ci/scripts.py SCRIPT PROGRAM   runs one, and prints that as JSON
 import json, os, runpy, subprocess, sys
 from concurrent.futures import ThreadPoolExecutor
 
-# The longest first.
-TESTS = """refused_memory run soak cut_streams folders limits like_sqlite shell pages exchanged schemas setup launcher random_files random_selects install
+# The longest first: that of folders waits for the disk.
+TESTS = """folders refused_memory like_sqlite run limits soak shell pages cut_streams setup schemas launcher random_files exchanged random_selects install
     tried connections random_objects random_writes leaving random_cursors"""
 SCRIPTS = [*(f"tests/{it}" for it in TESTS.split()), "examples/run", "docs/draw"]
 SECONDS = 3600  # after which a script has failed
@@ -16,8 +16,10 @@ def ended(script, program):
     """How a script ends over the program, in a process of its own: passed, failed, and what is to be read of it. One that breaks off or tries nothing has
     failed."""
     words = [sys.executable, "-B", os.path.realpath(__file__), script, program]
+    # (`python3` is the one that runs this, there too where what stands on the PATH is a script that looks for one)
+    env = {**os.environ, "PATH": f"{os.path.dirname(sys.executable)}:{os.environ['PATH']}"}
     try:
-        ran = subprocess.run(words, stdin=subprocess.DEVNULL, stdout=subprocess.PIPE, stderr=subprocess.STDOUT, errors="replace", timeout=SECONDS)
+        ran = subprocess.run(words, stdin=subprocess.DEVNULL, stdout=subprocess.PIPE, stderr=subprocess.STDOUT, errors="replace", timeout=SECONDS, env=env)
         passed, failed, lines = json.loads(ran.stdout.rstrip().rpartition("\n")[2])
         if ran.returncode or passed + failed == 0:
             raise ValueError(ran.returncode)
@@ -28,8 +30,9 @@ def ended(script, program):
     return passed, failed, "\n".join([f"{script}: {passed} passed, {failed} failed", *lines])
 
 def over(program):
-    """Runs all scripts over a program, as many at a time as there are processors, and gives of each, in their order, what `ended` does."""
-    with ThreadPoolExecutor(len(os.sched_getaffinity(0))) as pool:
+    """Runs all scripts over a program, as many at a time as there are processors and one more, since the first waits for the disk, and gives of each, in their
+    order, what `ended` does."""
+    with ThreadPoolExecutor(len(os.sched_getaffinity(0)) + 1) as pool:
         yield from pool.map(lambda it: ended(it, os.path.abspath(program)), SCRIPTS)
 
 def sources_of_dist():
