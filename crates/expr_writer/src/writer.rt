@@ -15,7 +15,7 @@ use med_value::{Comparison, Operation, Status};
 use std::alloc::{AllocError, Global};
 
 /// A terminal symbol that is always written the same.
-#[derive(Clone, Copy, Debug, Drop)]
+#[derive(Clone, Copy, Drop)]
 pub enum Fixed {
     LeftParen,
     RightParen,

@@ -6,7 +6,7 @@ ghost use Rattle.med_lexer.specs.Lexemes as spec;
 ghost use Rattle.med_lexer.specs.Cutting as cutting;
 
 /// What a byte of a run is.
-#[derive(Clone, Copy, Debug, Drop)]
+#[derive(Clone, Copy, Drop)]
 pub enum Class {
     /// a letter, a digit, `_` or `$`
     Part,

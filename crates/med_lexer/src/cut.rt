@@ -18,7 +18,7 @@ use std::alloc::{AllocError, Global};
 use std::borrow::CowStr;
 
 /// What stands at the front of a text.
-#[derive(Debug, Drop)]
+#[derive(Drop)]
 enum Step<'a> {
     /// nothing, or a comment
     Done,

@@ -3,7 +3,7 @@
 use med_syntax::{CursorStatement, Ddl, Statement, WriteStatement};
 
 /// A statement of any kind.
-#[derive(Debug, PartialEq, Eq, Drop)]
+#[derive(Drop)]
 pub enum Command {
     /// A statement on data.
     Data(Statement),

@@ -12,7 +12,7 @@ use med_lexer::TokenKind;
 use med_syntax::token_list::Tokens;
 
 /// A kind of command: each has a reader of its own.
-#[derive(Clone, Copy, Debug, Drop)]
+#[derive(Clone, Copy, Drop)]
 pub enum CommandKind {
     /// A statement on data: SELECT.
     Data,

@@ -12,7 +12,7 @@ pub enum Joint {
 }
 
 /// An expression, with each pair of its parentheses. A `bool` at the front of a test says whether it is written with `NOT`.
-#[derive(Debug, PartialEq, Eq, Drop)]
+#[derive(Debug, Drop)]
 pub enum Expr {
     /// A number without a sign, at most 9223372036854775807.
     Number(u64),

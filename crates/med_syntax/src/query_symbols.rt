@@ -16,7 +16,7 @@ use std::alloc::{AllocError, Global};
 
 /// What the next token stands behind, as far as keywords that are not reserved need it. The truth value says whether it is among the keys
 /// of ORDER BY.
-#[derive(Clone, Copy, Debug, Drop)]
+#[derive(Clone, Copy, Drop)]
 pub enum Place {
     /// An operand is to come.
     Before(bool),

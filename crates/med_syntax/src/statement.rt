@@ -3,13 +3,13 @@
 use crate::expr::Expr;
 
 /// A statement.
-#[derive(Debug, PartialEq, Eq, Drop)]
+#[derive(Debug, Drop)]
 pub enum Statement {
     Select(Select),
 }
 
 /// A core of a query: SELECT .. HAVING (SQL:2016, 7.16 <query specification>).
-#[derive(Debug, PartialEq, Eq, Drop)]
+#[derive(Debug, Drop)]
 pub struct Core {
     /// Whether DISTINCT is written.
     pub distinct: bool,
@@ -26,7 +26,7 @@ pub struct Core {
 }
 
 /// A query: its cores, which UNION ALL joins, an order and what is cut (SQL:2016, 7.17 <query expression>).
-#[derive(Debug, PartialEq, Eq, Drop)]
+#[derive(Debug, Drop)]
 pub struct Select {
     /// The first core.
     pub core: Core,
@@ -41,7 +41,7 @@ pub struct Select {
 }
 
 /// What a query answers (SQL:2016, 7.16 <select sublist>).
-#[derive(Debug, PartialEq, Eq, Drop)]
+#[derive(Debug, Drop)]
 pub enum Item {
     /// `*`
     All,
@@ -52,21 +52,21 @@ pub enum Item {
 }
 
 /// `table [AS alias]` (SQL:2016, 7.6 <table primary>).
-#[derive(Debug, PartialEq, Eq, Drop)]
+#[derive(Debug, Drop)]
 pub struct Entry {
     pub table: String,
     pub alias: Option<String>,
 }
 
 /// One entry of FROM, and what is joined to it, from the left on (SQL:2016, 7.10 <joined table>).
-#[derive(Debug, PartialEq, Eq, Drop)]
+#[derive(Debug, Drop)]
 pub struct Chain {
     pub first: Entry,
     pub joins: Vec<Join>,
 }
 
 /// A join with one more entry.
-#[derive(Debug, PartialEq, Eq, Drop)]
+#[derive(Debug, Drop)]
 pub enum Join {
     /// `[INNER] JOIN entry ON e`
     Inner(Entry, Expr),
@@ -77,7 +77,7 @@ pub enum Join {
 }
 
 /// `[qualifier .] column`, in GROUP BY (SQL:2016, 7.13 <grouping column reference>).
-#[derive(Debug, PartialEq, Eq, Drop)]
+#[derive(Debug, Drop)]
 pub struct GroupColumn {
     pub qualifier: Option<String>,
     pub name: String,
@@ -85,7 +85,7 @@ pub struct GroupColumn {
 
 /// A key of ORDER BY (SQL:2016, 10.10 <sort specification>). What is not written is as SQL has it: ASC, which puts NULL last; DESC puts it
 /// first.
-#[derive(Debug, PartialEq, Eq, Drop)]
+#[derive(Debug, Drop)]
 pub struct OrderKey {
     pub key: Expr,
     pub descending: bool,
@@ -93,7 +93,7 @@ pub struct OrderKey {
 }
 
 /// How many rows LIMIT leaves.
-#[derive(Clone, Copy, Debug, PartialEq, Eq, Drop)]
+#[derive(Clone, Copy, Debug, Drop)]
 pub enum Limit {
     /// `ALL`
     All,

@@ -9,7 +9,7 @@ use crate::Joint;
 use med_value::{Comparison, Operation, Status};
 
 /// A terminal symbol of the grammar, whose text is the token's.
-#[derive(Debug, Drop)]
+#[derive(Drop)]
 pub enum Symbol<'a> {
     LeftParen,
     RightParen,
@@ -46,14 +46,14 @@ pub fn onward(symbols: Symbols<'_>) -> Symbols<'_>
 }
 
 /// What parts the items of a list.
-#[derive(Clone, Copy, Debug, Drop)]
+#[derive(Clone, Copy, Drop)]
 pub enum Separator {
     Between(Joint),
     Comma,
 }
 
 /// A level of operators that associate to the left.
-#[derive(Clone, Copy, Debug, Drop)]
+#[derive(Clone, Copy, Drop)]
 pub enum Level {
     Sum,
     Product,

@@ -3,7 +3,7 @@
 use crate::{Entry, Expr, Statement};
 
 /// A statement that adds, changes or takes out rows of one table.
-#[derive(Debug, PartialEq, Eq, Drop)]
+#[derive(Debug, Drop)]
 pub enum WriteStatement {
     /// `INSERT INTO ..`
     Insert(Insert),
@@ -14,7 +14,7 @@ pub enum WriteStatement {
 }
 
 /// `INSERT INTO table [( columns )] given` (SQL:2016, <insert statement>).
-#[derive(Debug, PartialEq, Eq, Drop)]
+#[derive(Debug, Drop)]
 pub struct Insert {
     pub table: String,
     /// None where no list of columns is written.
@@ -24,7 +24,7 @@ pub struct Insert {
 }
 
 /// Where the rows of an INSERT come from (SQL:2016, <insert columns and source>).
-#[derive(Debug, PartialEq, Eq, Drop)]
+#[derive(Debug, Drop)]
 pub enum Given {
     /// `VALUES ( e {, e} ) {, ( e {, e} )}`
     Values(Vec<Vec<Expr>>),
@@ -33,7 +33,7 @@ pub enum Given {
 }
 
 /// `UPDATE entry SET sets [WHERE condition]` (SQL:2016, <update statement: searched>).
-#[derive(Debug, PartialEq, Eq, Drop)]
+#[derive(Debug, Drop)]
 pub struct Update {
     pub entry: Entry,
     pub sets: Vec<SetClause>,
@@ -42,14 +42,14 @@ pub struct Update {
 }
 
 /// `column = value`, in SET (SQL:2016, <set clause>).
-#[derive(Debug, PartialEq, Eq, Drop)]
+#[derive(Debug, Drop)]
 pub struct SetClause {
     pub column: String,
     pub value: Expr,
 }
 
 /// `DELETE FROM entry [WHERE condition]` (SQL:2016, <delete statement: searched>).
-#[derive(Debug, PartialEq, Eq, Drop)]
+#[derive(Debug, Drop)]
 pub struct Delete {
     pub entry: Entry,
     /// WHERE.

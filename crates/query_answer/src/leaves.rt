@@ -11,7 +11,7 @@ use std::alloc::Global;
 use tri_expr::{Expr, SetFunction};
 
 /// What an expression over a class looks at in its rows.
-#[derive(Debug, Drop)]
+#[derive(Drop)]
 pub(crate) enum Leaf {
     /// A column outside aggregates.
     Column(usize),

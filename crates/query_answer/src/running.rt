@@ -15,7 +15,7 @@ use std::alloc::Global;
 use tri_expr::{EvalFault, Expr, SetFunction, eval};
 
 /// The values of an aggregate's argument so far: how many there are, their exact total, and the best of them.
-#[derive(Debug, Drop)]
+#[derive(Drop)]
 pub(crate) struct Tally {
     pub count: u64,
     pub total: i128,
@@ -23,7 +23,7 @@ pub(crate) struct Tally {
 }
 
 /// What is kept of a leaf over the rows so far.
-#[derive(Debug, Drop)]
+#[derive(Drop)]
 pub(crate) enum Running {
     /// Of a column the value of the first row, and whether all rows have it.
     Shared(Option<Value>, bool),

@@ -4,7 +4,7 @@ ghost use Rattle.std.specs.Prelude.{◌≤◌, length};
 use med_value::{Row, Value};
 
 /// A row that waits for its place: what it shows, and behind that what it is sorted by.
-#[derive(Debug, Drop)]
+#[derive(Drop)]
 pub(crate) struct Staged {
     cells: Vec<Value>,
     width: usize,

@@ -12,7 +12,7 @@ use expr_writer::{Fixed, write_fixed, write_name};
 use std::alloc::AllocError;
 
 /// A keyword that no expression has.
-#[derive(Clone, Copy, Debug, Drop)]
+#[derive(Clone, Copy, Drop)]
 pub enum Keyword {
     Select,
     Distinct,
