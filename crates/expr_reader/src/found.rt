@@ -12,7 +12,7 @@ use med_syntax::refusal::{ReadFault, Refusal};
 use med_syntax::symbols::Symbols;
 
 /// An expression, its height, and the symbols behind it.
-#[derive(Debug, Drop)]
+#[derive(Drop)]
 pub struct FoundExpr<'a> {
     pub expr: Expr,
     pub height: u32,
