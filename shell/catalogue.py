@@ -1,7 +1,4 @@
 """The objects that the shell knows: it reads the statements on objects that were done."""
-import difflib
-from dataclasses import dataclass, field
-
 from statements import tokens, written
 
 TYPES = {"smallint": "integer", "integer": "integer", "int": "integer", "bigint": "integer", "text": "text", "boolean": "boolean", "bool": "boolean"}
@@ -15,27 +12,23 @@ CREATE FOREIGN TABLE parts (id integer NOT NULL, name text, qty integer, live bo
 CREATE FOREIGN TABLE orders (no integer, part integer, n integer) SERVER {0} OPTIONS (table 'orders')"""
 
 
-@dataclass
 class Column:
     """A column of a foreign table, as it was declared."""
-    name: str
-    type: str
-    options: dict = field(default_factory=dict)
-    is_not_null: bool = False
+    is_not_null = False
+
+    def __init__(self, name, type_name, options):
+        self.name, self.type, self.options = name, type_name, options
 
     def __str__(self):
         return f"{written(self.name)} {self.type}{options_text(self.options)}{' NOT NULL' if self.is_not_null else ''}"
 
 
-@dataclass
 class Object:
     """What a statement makes or drops. `kind` is table, server, wrapper or mapping; `of` what it stands on (of a wrapper: its HANDLER)."""
-    kind: str
-    name: str
-    of: str = ""
-    columns: list = field(default_factory=list)
-    options: dict = field(default_factory=dict)
-    is_drop: bool = False
+    of = ""
+
+    def __init__(self, kind, name, is_drop):
+        self.kind, self.name, self.is_drop, self.columns, self.options = kind, name, is_drop, [], {}
 
     def __str__(self):
         if self.kind == "table":
@@ -171,5 +164,6 @@ class Catalogue:
 
 def nearest(name, names):
     """Up to three of `names` that are spelt almost as `name`."""
+    import difflib
     folded = {it.lower(): it for it in names}
     return [folded[it] for it in difflib.get_close_matches(name.lower(), folded, 3, 0.6)]

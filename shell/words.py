@@ -1,6 +1,5 @@
 """The words with which the shell was started: its own, and those that go to `fedq run`."""
 import os
-from dataclasses import dataclass, field
 
 FORMATS = ("aligned", "csv", "json")
 # The options of `fedq run` that add a source.
@@ -33,23 +32,13 @@ class BadWords(Exception):
     """The words are wrong; the text says which."""
 
 
-@dataclass
 class Words:
-    """What the words say."""
-    program_words: list = field(default_factory=list)
-    sources: list = field(default_factory=list)  # (kind, name, path)
-    inits: list = field(default_factory=list)
-    inputs: list = field(default_factory=list)  # ("-c", SQL) or ("-f", FILE)
-    owner: str = "admin"
-    user: str = ""
-    port: int = 0
-    format: str = "aligned"
-    null: str = "\u2205"
-    output: str = ""
-    is_expanded: bool = False
-    stops: bool = False
-    asks_help: bool = False
-    asks_version: bool = False
+    """What the words say. Of `sources` each is (kind, name, path), and of `inputs` ("-c", SQL) or ("-f", FILE)."""
+    owner, user, output, port, format, null = "admin", "", "", 0, "aligned", "\u2205"
+    is_expanded = stops = asks_help = asks_version = False
+
+    def __init__(self):
+        self.program_words, self.sources, self.inits, self.inputs = [], [], [], []
 
 
 def port_of(text):
