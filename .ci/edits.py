@@ -169,8 +169,10 @@ def fits(crate, group, edit, at, cycles):
     return is_left and not any(are_tied(at, it) for it in group.values()) and applied(crate, [*stay, edit]) is not None
 
 def are_tied(at, other):
-    """Whether one check cannot tell of both functions, of which the first has no copies: they are one, or one names the other."""
-    return at.who == other.who or at.name in other.words or not other.has_copies and other.name in at.words
+    """Whether one check cannot tell of both functions, of which the first has no copies: they are one, or one names the other. Those of a cycle of calls have one
+    proof, in which what is open of one is open of no other: each is proved from the statements of all."""
+    names = at.name in other.words or not other.has_copies and other.name in at.words
+    return at.who == other.who or names and not (at.in_cycle and at.cycle == other.cycle)
 
 def goals_at(at, told):
     """The goals that a check leaves open at a function's lines."""
