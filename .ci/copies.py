@@ -19,6 +19,16 @@ REFUSED = """pub {answer} : {goal}.{answer}
 {answer} c = tt
 """
 
+# Answers to goals that were left beside another one when an edit was tried before: a hole, which is no proof. One goal is enough to refuse an edit, and the prover
+# is asked for that one alone then.
+TAKEN = """
+{taken} : {{A : Type 2}} → A
+{taken} = ?
+"""
+TAKEN_GOAL = """pub {name} : {goal}.{name}
+{name} = {taken}
+"""
+
 def functions(crate):
     """The crate's functions, as the library that was built of it names them."""
     return {*re.findall(rf'"(?:part/)?Rattle-{crate.name}-proofs\.([^"]*)\.Code"', where.text_of(f"{crate.rlib}/toolchain/checked.json"))}
@@ -37,6 +47,19 @@ def with_refused(crate, name, text):
     """A function's answers with one that is refused: their text, or None where it has others and none that names its goals."""
     goal = re.search(r"^use \S+\.Goals as (\S+)$", text or f"use Rattle.{crate.name}.proofs.{name}.Goals as goal", re.M)
     return goal and f"{text or f'{goal[0]}{chr(10)}'}\n{REFUSED.format(answer=where.REFUSED, goal=goal[1])}"
+
+def with_taken(text, names):
+    """A function's answers, of which one is refused, with holes for these goals, each where its answer stands; and of which that was done: of those that have no
+    answer or one of the usual form."""
+    goal, done = re.search(rf"^pub {where.REFUSED} : (\S+)\.", text, re.M)[1], []
+    for name in names:
+        hole, word = TAKEN_GOAL.format(name=name, goal=goal, taken=where.TAKEN), re.escape(name)
+        answer = re.search(rf"^pub {word} : {goal}\.{word}\n(?:(?:{word})? [^\n]*\n)+", text, re.M)
+        if answer or not re.search(rf"^(?:pub )?{word} ", text, re.M):
+            text = f"{text[:answer.start()]}{hole}{text[answer.end():]}" if answer else f"{text}\n{hole}"
+            done.append(name)
+    uses = [*re.finditer(r"^use [^\n]*\n", text, re.M)][-1].end()
+    return (f"{text[:uses]}{TAKEN.format(taken=where.TAKEN)}{text[uses:]}" if done else text), tuple(done)
 
 def proofs_in(crate, functions, at):
     """Below which name the proof stands of a function that is edited where it is, or None where that cannot be told."""
@@ -101,9 +124,10 @@ def by_statement(crate, functions, path, text, edited):
         text = f"{text[:start]}{new}{text[end:]}"
     return text, files
 
-def of_group(crate, functions, group):
+def of_group(crate, functions, group, left={}):
     """What stands in a check of a group of edits in place of the crate's own files, by path, None for a file that is gone; which of these an edit changes; where
-    each edit stands there; and where the copy stands that has none. Or None where the edits cannot stand beside each other."""
+    each edit stands there; and where the copy stands that has none. Or None where the edits cannot stand beside each other. Of an edit of which more goals
+    than one were `left` before the first alone is asked, where its function is in no cycle of calls."""
     made, stay = copies_of(crate, functions, group), {it: at for it, at in group.items() if not at.has_copies}
     if (texts := where.applied(crate, [*stay])) is None:
         return None
@@ -114,12 +138,15 @@ def of_group(crate, functions, group):
         files |= {**stated, path: beside(crate, path, text, own)}
         places |= places_in(crate, path, files[path], own, stay)
     files |= {path: it for copy in made for path, it in copy.proof.items()}
-    for name, at in [*((it.name, places[it.edit]) for it in made), *((proofs_in(crate, functions, at), places[it]) for it, at in stay.items())]:
+    asked = [*((it.name, it.edit) for it in made), *((proofs_in(crate, functions, at), it) for it, at in stay.items())]
+    for name, at, before in [(name, places[it], left.get(it, ())) for name, it in asked]:
         answers, proof = (f"proofs/{(name or '').replace('.', '/')}/{it}.antt" for it in ("Answers", "Proof"))
         of_crate = f"{crate.folder}/{answers}"
         text = files.get(answers) or (where.text_of(of_crate) if os.path.isfile(of_crate) else "")
         if name and proof not in files and not os.path.isfile(f"{crate.folder}/{proof}") and (more := with_refused(crate, name, text)):
-            files[answers], at.made = more, None if text else answers
+            text_taken, at.taken = with_taken(more, () if at.in_cycle else before[1:])
+            at.asked = before[0] if at.taken else None
+            files[answers], at.made = text_taken, None if text else answers
     changed = {path for it in (texts, *(copy.changed for copy in made)) for path in it} | {it.at.path for it in made}
     unchanged = places.pop(None, None)
     return argparse.Namespace(files=files, changed=changed, places=places, unchanged=unchanged)

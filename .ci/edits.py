@@ -4,8 +4,8 @@ import argparse, glob, os, re
 # Why a refusal shows little, in the kit's words; and what it tells of a proof file then (a name of a goal that is gone, or what cites that proof).
 LITTLE = "only because a proof file names what the edit took away"
 NAMES = re.compile(r"has no field|is not in scope|has no `")
-# The name of an answer to a goal that no function has, which a check is to refuse.
-REFUSED = "no-goal-has-this-name"
+# The name of an answer to a goal that no function has, which a check is to refuse; and that of the hole by which goals are taken.
+REFUSED, TAKEN = "no-goal-has-this-name", "taken-since-another-is-asked"
 # Of so many edits at most one check tries copies.
 MOST = 60
 # Methods that are called also where nothing names them: by `?`, and by comparisons.
@@ -62,7 +62,8 @@ def function_of(crate, path, text, head):
     """What a check tells of the function that begins here, or None where that cannot be said: its number in its file, its name, and whether and in
     which cycle of calls it is, or calls itself; whether a copy of it can stand beside it; the name that `--only` takes; the folder that its proof has where it is
     in no cycle; how a check's line of it begins (a method's under the module of its type, which may be another than this file's); the folder of its proof, or of
-    its cycle's, and a file that was made there for the check alone; its file, the words of its text, its lines, and its body's place there."""
+    its cycle's, a file that was made there for the check alone, and where goals are taken there, the one that is asked, and these; its file, the words of its
+    text, its lines, and its body's place there."""
     kind = type_around(text, head)
     # (an edit can begin on the head's own line, and that of a law can be empty)
     body = re.compile(rf"{head[1]}\S[^\n]*?\{{( [^\n]*\n.*?^{head[1]})\}}\n", re.M | re.S).match(text, head.start())
@@ -83,7 +84,7 @@ def function_of(crate, path, text, head):
     return argparse.Namespace(
         who=f"{path} {number}", number=number, name=head[2], in_cycle=bool(cycle), cycle=cycle and cycle[1], calls_itself=calls_itself,
         has_copies=not (cycle or is_of_trait or calls_itself), only=f"{kind}::{head[2]}" if kind else f"{module}{head[2]}", own=rf"(?:\./)?proofs/{under}{head[2]}/",
-        begins=rf"^fn {crate.name}::{under.replace('/', '::')}{head[2]}: (.*)$", folder=rf"(?:\./)?proofs/{proofs}", made=None,
+        begins=rf"^fn {crate.name}::{under.replace('/', '::')}{head[2]}: (.*)$", folder=rf"(?:\./)?proofs/{proofs}", made=None, asked=None, taken=(),
         path=path, words={*re.findall(r"\w+", text[start : body.end()])} - {head[2]},
         lines=range(text.count("\n", 0, start) + 1, text.count("\n", 0, body.end()) + 1), body=body.span(1))
 
@@ -179,6 +180,23 @@ def goals_at(at, told):
     notes = re.finditer(rf"^note: {re.escape(at.path)}:(\d+):\d+: ((?:it is not proved|`search` found no proof) .*)$", told, re.M)
     return [it[2] for it in notes if int(it[1]) in at.lines]
 
+def errors_at(at, told):
+    """The errors in the proof of a function, each without its place: of one in a cycle of calls those of its own goals."""
+    found = re.findall(rf"^(?:note: )?(?:\./)?({at.folder}\S*?):\d+:\d+: error: ({f'`{at.name}-' if at.in_cycle else ''}.*)$", told, re.M)
+    # (that something is not admitted tells of that, and not of this proof; nor does the answer that is to be refused)
+    errors = [it for path, it in found if "was not admitted" not in it and path.removeprefix("./") != at.made]
+    return [it for it in errors if not any(f"`{name}`" in it for name in (REFUSED, TAKEN))]
+
+def left_at(at, told):
+    """The names of the goals that a check leaves open at a function's lines, whose answers it refuses, or that were taken there: those first of which it shows
+    values at which they are false, then those that it finds no proof of, and last the answers, of which some only name what is gone."""
+    goals, errors = goals_at(at, told), [it for it in errors_at(at, told) if not it.startswith(tuple(f"`{name}`" for name in at.taken))]
+    goals = sorted(goals, key=lambda it: ("allow values at which" not in it) + ("gave up" in it))
+    names = [name for it in goals for name in re.findall(r"\(`([^`\s]+)`\)", it)]
+    names += [it[1] for error in sorted(errors, key=lambda it: bool(NAMES.search(it))) if (it := re.match(r"`([^`\s]+)`:", error))]
+    stale = {name for it in errors_at(at, told) for name in at.taken if it.startswith(f"`{name}`")}
+    return [*dict.fromkeys([*names, *(it for it in at.taken if it not in stale)])]
+
 def refused_alone(group, told):
     """Of a group, the edits whose function the prover refused for itself: it tells of an open goal at the function's lines, or of an error in its
     proof. That a function which it calls is refused too changes neither, since a function is proved from the contracts of what it calls. With what was
@@ -189,9 +207,10 @@ def refused_alone(group, told):
         if len(lines) == 1:
             # (else the name is that of several functions; the functions of a cycle have one proof, in which a goal's name begins with its function's)
             goals += [line for line in lines if "`search` did not prove" in line and not at.in_cycle]
-            errors = re.findall(rf"^(?:note: )?(?:\./)?({at.folder}\S*?):\d+:\d+: error: ({f'`{at.name}-' if at.in_cycle else ''}.*)$", told, re.M)
-        # (that something is not admitted tells of that, and not of this proof; nor does the answer that is to be refused)
-        errors = [it for path, it in errors if "was not admitted" not in it and f"`{REFUSED}`" not in it and path.removeprefix("./") != at.made]
+            errors = errors_at(at, told)
+        if at.taken:
+            # (one goal alone was asked)
+            goals, errors = [it for it in goals if f"`{at.asked}`" in it], [it for it in errors if it.startswith(f"`{at.asked}`")]
         little = not goals and all(map(NAMES.search, errors))
         if (goals or errors) and not any(is_whole(it) for it in lines):
             refused[edit] = f"{(goals or errors)[0][:160]}{f' ({LITTLE})' if little else ''}"

@@ -155,15 +155,15 @@ class Texts:
         return hashlib.sha256(repr((text, sorted(self.parts(text, at) if at else self.files.items()))).encode()).hexdigest()[:16]
 
 def tried():
-    """The lines of `.ci/tried`: by the crate's and the edit's name the sum and the day."""
+    """The lines of `.ci/tried`: by the crate's and the edit's name the sum, the day and the goals that stayed open."""
     if not os.path.isfile(TRIED):
         return {}
     with open(TRIED, encoding="utf-8") as it:
-        return {name: (sum, day) for name, sum, day in (line.split() for line in it)}
+        return {name: told for name, *told in (line.split() for line in it)}
 
 def note(lines):
     """Writes `.ci/tried` anew, whole or not at all, without the edits that are gone."""
     there = {name: told for name, told in lines.items() if os.path.isfile("crates/{}/must-fail/{}.edit".format(*name.split("/")))}
     with open(f"{TRIED}.new", "w", encoding="utf-8") as it:
-        it.writelines(f"{name} {sum} {day}\n" for name, (sum, day) in sorted(there.items()))
+        it.writelines(f"{' '.join([name, *told])}\n" for name, told in sorted(there.items()))
     os.replace(f"{TRIED}.new", TRIED)

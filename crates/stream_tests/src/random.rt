@@ -9,7 +9,6 @@ ghost use Rattle.std.specs.List.{list_all};
 ghost use Rattle.std.specs.Prelude.{◌≡◌, ◌<◌, ◌&&◌, true, [], ◌∷◌, IfOk, map};
 ghost use Rattle.std.specs.String.{string_bytes};
 
-use bench_tables::law::lists_take_tables;
 use fdw_api::wishes::Wrapper2;
 use fed_cli::Ended;
 use fed_cli::serving::serve_engine;
@@ -21,6 +20,7 @@ use med_value::text::row_text;
 use med_value::{ColType, ColumnDef, NoMemory, Row, TableNo, Value};
 use plain_select::plain_answer;
 use probe_wrapper::Shuffled;
+use source_kinds::law::lists_take_their_tables;
 use std::alloc::Global;
 use std::str::from_utf8;
 use std::test::Fail;
@@ -188,7 +188,7 @@ fn table(alloc: Global, name: &str, seed: u64, place: usize) -> Result<ListTable
 fn list(alloc: Global, seed: u64) -> Result<ListWrapper, NoMemory>
     ensures { IfOk result (λ w. IsIdle (box_of w) × TakesAs Lists (box_of w)) }
 {
-    lists_take_tables();
+    lists_take_their_tables();
     let left = table(alloc, "t", seed, 0)?;
     let right = table(alloc, "u", seed, 1)?;
     ListWrapper::new(alloc, vec![in alloc; left, right]?)

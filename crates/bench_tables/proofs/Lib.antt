@@ -1,3 +1,0 @@
-pub mod BenchRows
-pub mod Making
-pub mod Taking

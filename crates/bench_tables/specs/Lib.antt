@@ -1,2 +1,0 @@
-pub mod Setup
-pub mod Tables
