@@ -19,14 +19,10 @@ REFUSED = """pub {answer} : {goal}.{answer}
 {answer} c = tt
 """
 
-# Answers to goals that were left beside another one when an edit was tried before: a hole, which is no proof. One goal is enough to refuse an edit, and the prover
-# is asked for that one alone then.
-TAKEN = """
-{taken} : {{A : Type 2}} → A
-{taken} = ?
-"""
-TAKEN_GOAL = """pub {name} : {goal}.{name}
-{name} = {taken}
+# An answer to a goal that was left beside another one when an edit was tried before: a hole, which is no proof. One goal is enough to refuse an edit, and the
+# prover is asked for that one alone then.
+TAKEN = """pub {name} : {goal}.{name}
+{name} = ?
 """
 
 def functions(crate):
@@ -53,13 +49,13 @@ def with_taken(text, names):
     answer or one of the usual form."""
     goal, done = re.search(rf"^pub {where.REFUSED} : (\S+)\.", text, re.M)[1], []
     for name in names:
-        hole, word = TAKEN_GOAL.format(name=name, goal=goal, taken=where.TAKEN), re.escape(name)
-        answer = re.search(rf"^pub {word} : {goal}\.{word}\n(?:(?:{word})? [^\n]*\n)+", text, re.M)
+        hole, word = TAKEN.format(name=name, goal=goal), re.escape(name)
+        # (an answer ends in front of an empty line, or of one that begins another declaration)
+        answer = re.search(rf"^pub {word} : {goal}\.{word}\n(?:(?:{word} |[ )}}\]])[^\n]*\n)+", text, re.M)
         if answer or not re.search(rf"^(?:pub )?{word} ", text, re.M):
             text = f"{text[:answer.start()]}{hole}{text[answer.end():]}" if answer else f"{text}\n{hole}"
             done.append(name)
-    uses = [*re.finditer(r"^use [^\n]*\n", text, re.M)][-1].end()
-    return (f"{text[:uses]}{TAKEN.format(taken=where.TAKEN)}{text[uses:]}" if done else text), tuple(done)
+    return text, tuple(done)
 
 def proofs_in(crate, functions, at):
     """Below which name the proof stands of a function that is edited where it is, or None where that cannot be told."""

@@ -4,8 +4,8 @@ import argparse, glob, os, re
 # Why a refusal shows little, in the kit's words; and what it tells of a proof file then (a name of a goal that is gone, or what cites that proof).
 LITTLE = "only because a proof file names what the edit took away"
 NAMES = re.compile(r"has no field|is not in scope|has no `")
-# The name of an answer to a goal that no function has, which a check is to refuse; and that of the hole by which goals are taken.
-REFUSED, TAKEN = "no-goal-has-this-name", "taken-since-another-is-asked"
+# The name of an answer to a goal that no function has, which a check is to refuse.
+REFUSED = "no-goal-has-this-name"
 # Of so many edits at most one check tries copies.
 MOST = 60
 # Methods that are called also where nothing names them: by `?`, and by comparisons.
@@ -185,7 +185,7 @@ def errors_at(at, told):
     found = re.findall(rf"^(?:note: )?(?:\./)?({at.folder}\S*?):\d+:\d+: error: ({f'`{at.name}-' if at.in_cycle else ''}.*)$", told, re.M)
     # (that something is not admitted tells of that, and not of this proof; nor does the answer that is to be refused)
     errors = [it for path, it in found if "was not admitted" not in it and path.removeprefix("./") != at.made]
-    return [it for it in errors if not any(f"`{name}`" in it for name in (REFUSED, TAKEN))]
+    return [it for it in errors if f"`{REFUSED}`" not in it]
 
 def left_at(at, told):
     """The names of the goals that a check leaves open at a function's lines, whose answers it refuses, or that were taken there: those first of which it shows
