@@ -155,7 +155,7 @@ class Texts:
         return hashlib.sha256(repr((text, sorted(self.parts(text, at) if at else self.files.items()))).encode()).hexdigest()[:16]
 
 def tried():
-    """The lines of `.ci/tried`: by the crate's and the edit's name the sum, the day and the goals that stayed open."""
+    """The lines of `.ci/tried`: by the crate's and the edit's name the sum, the day and the goals that were left."""
     if not os.path.isfile(TRIED):
         return {}
     with open(TRIED, encoding="utf-8") as it:
