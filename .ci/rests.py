@@ -1,4 +1,5 @@
-"""What the refusal of a must-fail edit rests on, and `.ci/tried`, whose lines each name an edit, a sum of that, and the day on which it was last refused.
+"""What the refusal of a must-fail edit rests on, and `.ci/tried`, whose lines each name an edit, a sum of that, the day on which it was last refused, and what
+was left of it then, which is in no sum.
 
 It rests on the edit; on the function that it changes; on the heads, with their contracts, of what that names and of what the traits of its types may run;
 on the types, constants and imports that it names; on its stored proof; and on the files of specs/ and proofs/ that any of these use. An edit that changes
