@@ -4,24 +4,18 @@ ghost use Rattle.med_session.specs.Requests.{IsUser};
 ghost use Rattle.fed_cli.specs.Exits.{TellsRun};
 ghost use Rattle.fed_stream.specs.Streams.{stream};
 ghost use Rattle.fed_cli.specs.Told.{run_status};
-ghost use Rattle.fed_setup.specs.Setup.{outside_of};
 ghost use Rattle.fed_cli.specs.ProgramExits.{Exits, ExitsBy, ServesAsked, WritesListened, listen_status};
 
 use crate::program::run_asked;
 use crate::telling::{tell_run, tell_words};
 use crate::told::status;
 use crate::{ListenFault, listen_and_serve};
-use blob_store::Disks;
-use fdw_api::interface::Wrapper;
-use fed_setup::inputs::ReadsInputs;
 use fed_setup::program::{NotBegun, begin};
 use fed_setup::surroundings::Surroundings;
 use fed_stream::{GivenUp, Sink, write_front, write_line};
 use fed_words::words::{AskedRun, Service, read_words};
 use itoa::Buffer;
 use med_session::Sources;
-use source_kinds::Source;
-use sqlite_writes::Databases;
 use std::io::{Read, Write};
 use std::net::Net;
 
@@ -192,21 +186,4 @@ pub fn run<V: AllocGlobal + Surroundings + Net, I: Read, O: Write, E: Write>(
             1
         }
     }
-}
-
-/// The same over a runtime, whose allocations, databases, disks, inputs and network the program takes: what it finds outside itself is what
-/// these tell.
-pub fn run_on<V: AllocGlobal + Databases + Disks + ReadsInputs + Net, I: Read, O: Write, E: Write>(
-    rt: &V,
-    words: Result<Vec<String>, ArgsFault>,
-    input: &mut I,
-    output: &mut O,
-    errors: &mut E,
-) -> u8
-    ensures { ExitsBy (outside_of V.Store.SourceStore.honest (V.Databases.stands rt.now) (V.Disks.stands rt.now) (V.inputs rt.now))
-        ⟦<Source<V> as Wrapper>⟧.meaning V.Stream.remaining V.Stream.contents words result
-        (stream (I.remaining input.old) (I.remaining input.new)) (stream (O.contents output.old) (O.contents output.new))
-        (stream (E.contents errors.old) (E.contents errors.new)) }
-{
-    run(rt, words, input, output, errors)
 }

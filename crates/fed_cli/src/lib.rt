@@ -15,7 +15,7 @@ pub mod told;
 pub mod turns;
 pub mod worlds;
 
-pub use asked::{ArgsFault, Exit, run, run_on, run_words, serve_asked};
+pub use asked::{ArgsFault, Exit, run, run_words, serve_asked};
 pub use fed_stream::{Ended, StreamFault, serve_stream, serve_stream_within};
 pub use kept::serve_kept;
 pub use listening::{ListenFault, Listening, listen_and_serve};

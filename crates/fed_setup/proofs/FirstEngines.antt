@@ -27,8 +27,8 @@ use Rattle.fed_setup.specs.Demo.{demo_list, setup_script}
 use Rattle.fed_setup.specs.Setup.{Outside, over, empty_scene, HasList, HasPlaces, SetsUp, IsNewAt, IsNewPlace, AddsPlace, AddsPlaces, IsNotAdded, AreNotAdded, IsFirst, HasNoFirst, HasListAsked, IsSetUp, IsNotSetUp, SetUpFails, list_asked, list_label, labels_before, place_label}
 use Rattle.sqlite_wrapper.specs.Kinds.{sqlite_kind}
 use Rattle.sqlite_writes.specs.Found.{Images}
-use Rattle.source_kinds.specs.Databases.{by_path, is_memory}
-use Rattle.fed_words.specs.Places.{Place, source_kind, is_honest_place}
+use Rattle.fed_setup.specs.Databases.{by_path}
+use Rattle.fed_words.specs.Places.{Place, source_kind, is_honest_place, is_memory}
 use Rattle.fed_setup.specs.Told.{Came, added_of, setup_told}
 use Rattle.fed_words.specs.Words.{places_asked}
 use Rattle.fed_words.specs.declared.places.PlaceKind.{PlaceKind}

@@ -3,5 +3,7 @@ pub mod Replays
 pub mod Engines
 pub mod Demo
 pub mod Inputs
+pub mod Databases
+pub mod Folders
 pub mod Setup
 pub mod Told

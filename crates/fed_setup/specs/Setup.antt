@@ -19,7 +19,7 @@ use Rattle.fed_setup.specs.declared.script.ScriptFault.{ScriptFault}
 use Rattle.fed_setup.specs.declared.script.ScriptFault.TheVariants as scripts
 use Rattle.fed_setup.specs.Demo.{demo_list, setup_script}
 use Rattle.fed_setup.specs.Inputs.{Inputs}
-use Rattle.source_kinds.specs.Databases.{IsNewDatabase}
+use Rattle.fed_setup.specs.Databases.{IsNewDatabase}
 use Rattle.sqlite_writes.specs.Found.{Images}
 use Rattle.fed_words.specs.Places.{Place, source_kind, is_honest_place}
 use Rattle.fed_setup.specs.Told.{Came, replay_told}

@@ -1,6 +1,6 @@
 //! Scripts of SQL lines that are run before an engine is served.
 //!
-//! How an engine begins.
+//! The sources of a program, and how an engine begins with them.
 #![tactic(auto)]
 
 pub mod demo;
@@ -9,6 +9,7 @@ pub mod inputs;
 mod lines;
 pub mod program;
 pub mod script;
+pub mod sources;
 pub mod surroundings;
 pub mod told;
 

@@ -17,6 +17,7 @@ ghost use Rattle.fed_setup.specs.declared.told.RunFault.TheVariants as faults;
 use crate::demo::{demo_tables, setup_script};
 use crate::init::{read_init, replay_init};
 use crate::replay;
+use crate::sources::OpenFault;
 use crate::surroundings::Surroundings;
 use crate::told::{RunFault, add_fault, setup_told};
 use fdw_api::wishes::Wrapper2;
@@ -25,7 +26,6 @@ use fed_words::words::AskedRun;
 use list_wrapper::ListWrapper;
 use med_catalog::law::lists_are_told_nothing;
 use med_session::{Engine, SourceKind};
-use source_kinds::OpenFault;
 use source_kinds::law::{csv_takes_its_tables, jsonl_takes_its_tables, sqlite_takes_its_tables};
 use std::alloc::Global;
 

@@ -4,17 +4,18 @@ ghost use Rattle.fdw_api.specs.State.{IsIdle};
 ghost use Rattle.blob_store.specs.Known.{Sure};
 ghost use Rattle.list_wrapper.specs.ListBoxes.{box_of};
 ghost use Rattle.sqlite_writes.specs.Found.{ShowsAt};
-ghost use Rattle.source_kinds.specs.Databases.{database_in, is_memory};
+ghost use Rattle.fed_setup.specs.Databases.{database_in};
+ghost use Rattle.fed_words.specs.Places.{is_memory};
 ghost use Rattle.fed_words.specs.declared.places.PlaceKind.TheVariants.{Csv, JsonLines, Sqlite};
 ghost use Rattle.fed_setup.specs.Setup.{Outside, outside_of, IsNewAt};
 
 use crate::inputs::ReadsInputs;
+use crate::sources::{OpenFault, Source, of_csv, of_jsonl, of_list, of_sqlite};
 use blob_store::Disks;
 use blob_store::disk::DiskFault;
 use fdw_api::wishes::Wrapper2;
 use list_wrapper::ListWrapper;
 use med_value::NoMemory;
-use source_kinds::{OpenFault, Source, of_csv, of_jsonl, of_list, of_sqlite};
 use sqlite_writes::Databases;
 
 /// What a program is run in: its runtime, or what a test has in its place.

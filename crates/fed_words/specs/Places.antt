@@ -1,9 +1,8 @@
 -- The folders and databases that words name as sources, each by a value NAME=PATH.
-use Rattle.std.specs.Prelude.{◌≡◌, ◌≢◌, ◌==◌, ◌⊎◌, ◌||◌, ℕ, Bool, true, List, [], ◌∷◌}
+use Rattle.std.specs.Prelude.{◌≡◌, ◌≢◌, ◌==◌, ◌⊎◌, ◌||◌, ℕ, Bool, true, List, [], ◌∷◌, codes, bytes_eq}
 use Rattle.std.specs.List.{before_first, after_first}
 use Rattle.med_catalog.specs.declared.kind.SourceKind.{SourceKind}
 use Rattle.med_catalog.specs.declared.kind.SourceKind.TheVariants as sources
-use Rattle.source_kinds.specs.Databases.{is_memory}
 use Rattle.fed_words.specs.Names.{IsSourceName}
 use Rattle.fed_words.specs.declared.places.AskedPlace.{AskedPlace}
 use Rattle.fed_words.specs.declared.places.PlaceFault.{PlaceFault}
@@ -25,6 +24,10 @@ abbrev pub source_kind : PlaceKind → SourceKind
 source_kind Csv = sources.Csv
 source_kind JsonLines = sources.JsonLines
 source_kind Sqlite = sources.Sqlite
+
+-- the path of a database in memory
+abbrev pub is_memory : List ℕ → Bool
+is_memory path = bytes_eq path (codes ":memory:")
 
 -- Whether a source is honest: folders and databases in memory are, and one in a file is where the store of such files always returns what
 -- was written.

@@ -2,4 +2,4 @@ mod Rows
 mod ListTakes
 mod CsvTakes
 mod JsonTakes
-mod SqliteTakes
+pub mod SqliteTakes

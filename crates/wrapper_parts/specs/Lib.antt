@@ -8,3 +8,4 @@ pub mod Rising
 pub mod Halves
 pub mod KeepingRise
 pub mod Splices
+pub mod Either

@@ -1,7 +1,7 @@
 //! Wrappers round wrappers, and what the calls of a row answer on them.
 ghost use Rattle.std.specs.Prelude.{◌≡◌, [], List, IsSome};
 ghost use Rattle.fdw_api.specs.Prelude.{Column, IsIdle, table_of, lifted};
-ghost use Rattle.source_kinds.specs.Either.{box_of_either};
+ghost use Rattle.wrapper_parts.specs.Either.{box_of_either};
 ghost use Rattle.probe_wrapper.specs.Counting.{counted};
 ghost use Rattle.probe_wrapper.specs.Shy.{shied, asked_of};
 ghost use Rattle.probe_wrapper.specs.Vague.{vague};
@@ -17,9 +17,9 @@ use fdw_api::interface::Wrapper;
 use fdw_api::lift::Lift;
 use med_value::TableNo;
 use probe_wrapper::{Counting, Failing, Shuffled, Shy, Vague};
-use source_kinds::EitherSource;
 use std::alloc::Global;
 use std::test::Fail;
+use wrapper_parts::EitherSource;
 
 pub fn in_counting<W: Wrapper>(inner: W) -> Counting<W>
     requires idle { IsIdle (W.meaning inner) }

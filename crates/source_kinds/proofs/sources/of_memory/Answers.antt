@@ -1,4 +1,0 @@
-use Rattle.source_kinds.proofs.sources.of_memory.Goals as goal
-
-pub new-requires-clause-writable : goal.new-requires-clause-writable
-new-requires-clause-writable g c = λ table honest. c.in-Ok.ensures.writable table

@@ -1,3 +1,0 @@
-pub mod Either
-pub mod Databases
-pub mod Folders
