@@ -73,14 +73,16 @@ def function_of(crate, path, text, head):
     module = "" if path == "src/lib.rt" else path[4:-3].removesuffix("/mod").replace("/", "::") + "::"
     cycle = re.search(r"cycle\((\w+)\)", text[text.rfind("\n\n", 0, head.start()) : head.start()])
     under = rf"(?:\w+/)*{kind}/" if kind else module.replace("::", "/")
-    proofs = rf"(?:{under}{head[2]}{rf'|(?:[^/]+/)*[+]{cycle[1]}' if cycle else ''})/"
+    calls_itself = not cycle and bool(re.search(rf"\b{head[2]}\b", body[1]) and glob.glob(f"{glob.escape(crate.folder)}/proofs/**/+{head[2]}", recursive=True))
+    # (a cycle has one proof, and so has a function that calls itself)
+    round_folder = rf"|(?:[^/]+/)*[+]{cycle[1]}" if cycle else rf"|{under}[+]{head[2]}" if calls_itself else ""
+    proofs = rf"(?:{under}{head[2]}{round_folder})/"
     # (an attribute over several lines can have lines of comment)
     behind = text.rfind("\n\n", 0, head.start()) + 1
     start = behind + re.search(r"(?:^ *#\[[^][]*(?:\[[^][]*\][^][]*)*\]\n|^(?! *//)[^\n]*[^{};\n]\n)*\Z", text[behind : head.start()], re.M).start()
     number = len(HEAD.findall(text, 0, head.start()))
     # (what is a trait's has a place for no second, and one that calls itself would call the other)
     is_of_trait = kind and re.search(r"\btrait\b|\bfor\b", above(text, head)[-1][0])
-    calls_itself = not cycle and bool(re.search(rf"\b{head[2]}\b", body[1]) and glob.glob(f"{glob.escape(crate.folder)}/proofs/**/+{head[2]}", recursive=True))
     return argparse.Namespace(
         who=f"{path} {number}", number=number, name=head[2], in_cycle=bool(cycle), cycle=cycle and cycle[1], calls_itself=calls_itself,
         has_copies=not (cycle or is_of_trait or calls_itself), only=f"{kind}::{head[2]}" if kind else f"{module}{head[2]}", own=rf"(?:\./)?proofs/{under}{head[2]}/",
