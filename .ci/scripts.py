@@ -30,9 +30,9 @@ def ended(script, program):
     return passed, failed, "\n".join([f"{script}: {passed} passed, {failed} failed", *lines])
 
 def over(program):
-    """Runs all scripts over a program, as many at a time as there are processors and one more, since the first waits for the disk, and gives of each, in their
-    order, what `ended` does."""
-    with ThreadPoolExecutor(len(os.sched_getaffinity(0)) + 1) as pool:
+    """Runs all scripts over a program, as many at a time as there are processors and two more, since the first waits for the disk and others for a while, and
+    gives of each, in their order, what `ended` does."""
+    with ThreadPoolExecutor(len(os.sched_getaffinity(0)) + 2) as pool:
         yield from pool.map(lambda it: ended(it, os.path.abspath(program)), SCRIPTS)
 
 def sources_of_dist():
