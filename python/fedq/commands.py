@@ -19,7 +19,8 @@ def program() -> NoReturn:
 
 
 def room(name: str) -> NoReturn:
-    """Runs a room of this package as a command, over the program in this package where FEDQ_PROGRAM names no other. Texts are UTF-8, whatever the locale says."""
+    """Runs a room of this package as a command, over the program in this package where FEDQ_PROGRAM names no other. Texts are UTF-8,
+    whatever the locale says."""
     if locale.getpreferredencoding(False).upper().replace("-", "") != "UTF8" and not sys.flags.utf8_mode:
         os.execv(sys.executable, [sys.executable, "-X", "utf8", *sys.argv])
     path = own_program()

@@ -26,8 +26,8 @@ def connect(csv: Sources = None, jsonl: Sources = None, sqlite: Sources = None, 
     """Starts `fedq` over folders and databases, each with a name; or, with `port`, joins `fedq serve` or a gateway's port for lines.
 
     - `csv`, `jsonl`: folders of CSV files and of JSON lines; `sqlite`: databases; `lists`: names of demo lists.
-    - `init`: a file of statements, or a list of statements, that make the objects. Without it the folders are looked at as `fedq-setup` does: a table for each file, to
-      read, or with `write` to write too. What cannot be bound is a `fedq.Warning`.
+    - `init`: a file of statements, or a list of statements, that make the objects. Without it the folders are looked at as `fedq-setup`
+      does: a table for each file, to read, or with `write` to write too. What cannot be bound is a `fedq.Warning`.
     - `user`: the session's user, by default the owner; `owner`: who may CREATE and DROP, by default admin.
     - `program`: the program. Else it is what FEDQ_PROGRAM names, the one in this package or of its clone, or `fedq` on the PATH.
     - `timeout`: so many seconds are waited for the port's first answer; without end by default.
@@ -60,8 +60,8 @@ def words_of(sources: Dict[str, Dict[str, Path]]) -> List[str]:
 
 
 def looked_at(sources: Dict[str, Dict[str, Path]], words: Sequence[str], write: bool) -> List[str]:
-    """The statements that `fedq-setup` writes for sources. What it tells becomes warnings. Fails with InterfaceError where a folder is not there, and with
-    ProgrammingError where it refuses the words."""
+    """The statements that `fedq-setup` writes for sources. What it tells becomes warnings. Fails with InterfaceError where a folder is
+    not there, and with ProgrammingError where it refuses the words."""
     for kind in ("csv", "jsonl"):
         for name, path in sources[kind].items():
             if not os.path.isdir(path):
@@ -82,7 +82,8 @@ def set_up(words: Sequence[str]) -> Tuple[List[str], List[str], int]:
     with tempfile.TemporaryDirectory() as folder:
         out = os.path.join(folder, "init.sql")
         try:
-            done = subprocess.run([*command, *words, "--out", out], stdin=subprocess.DEVNULL, stdout=subprocess.PIPE, stderr=subprocess.PIPE, env=room)
+            words = [*command, *words, "--out", out]
+            done = subprocess.run(words, stdin=subprocess.DEVNULL, stdout=subprocess.PIPE, stderr=subprocess.PIPE, env=room)
         except OSError as fault:
             raise InterfaceError(f"cannot start {command[0]}: {fault.strerror}") from None
         told = [it for it in done.stderr.decode(errors="replace").splitlines() if it]
@@ -93,7 +94,8 @@ def set_up(words: Sequence[str]) -> Tuple[List[str], List[str], int]:
 
 
 def setup_command(package: str) -> List[str]:
-    """How `fedq-setup` is started: what FEDQ_SETUP names, the room of this package, or the launcher of its clone. Fails with InterfaceError where there is none."""
+    """How `fedq-setup` is started: what FEDQ_SETUP names, the room of this package, or the launcher of its clone. Fails with
+    InterfaceError where there is none."""
     named = os.environ.get("FEDQ_SETUP")
     if named:
         return [named]

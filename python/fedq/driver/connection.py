@@ -16,16 +16,17 @@ from ..sql import asked_type
 from .cursor import Cursor
 from .parameters import Statement
 
+INTERRUPTED = " by an interrupt: the engine has no other way to end a statement"
 MOST_KINDS = 10_000  # of queries whose types are kept
 MOST_TOGETHER = 200  # requests that are sent before their replies are read
 
 
 class Connection:
-    """A session. Each statement is done at once, whole or not at all: there is nothing to commit, and what was written cannot be rolled back. Threads may share it:
-    one statement is asked at a time."""
+    """A session. Each statement is done at once, whole or not at all: there is nothing to commit, and what was written cannot be rolled
+    back. Threads may share it: one statement is asked at a time."""
     Warning, Error, InterfaceError, DatabaseError = errors.Warning, errors.Error, errors.InterfaceError, errors.DatabaseError
-    DataError, OperationalError, IntegrityError, InternalError = errors.DataError, errors.OperationalError, errors.IntegrityError, errors.InternalError
-    ProgrammingError, NotSupportedError = errors.ProgrammingError, errors.NotSupportedError
+    DataError, OperationalError, IntegrityError = errors.DataError, errors.OperationalError, errors.IntegrityError
+    InternalError, ProgrammingError, NotSupportedError = errors.InternalError, errors.ProgrammingError, errors.NotSupportedError
     autocommit = True
 
     def __init__(self, transport: Transport, user: str, paramstyle: str = "qmark", is_shared: bool = False) -> None:
@@ -49,8 +50,8 @@ class Connection:
             raise InterfaceError("the connection was made before fork(): make one in this process")
 
     def ask(self, *requests: str) -> List[Reply]:
-        """The replies to requests that are sent together. Fails with OperationalError where one is longer than a line may be (54000), and where the engine has gone;
-        the connection is closed then, as it is where an interrupt comes while a reply is awaited."""
+        """The replies to requests that are sent together. Fails with OperationalError where one is longer than a line may be (54000), and
+        where the engine has gone; the connection is closed then, as it is where an interrupt comes while a reply is awaited."""
         with self.lock:
             self.check()
             for it in requests:
@@ -60,7 +61,7 @@ class Connection:
             try:
                 return self.transport.ask([*gone, *requests])[len(gone):]
             except BaseException as fault:
-                self.closed = f": {fault}" if isinstance(fault, errors.Error) else " by an interrupt: the engine has no other way to end a statement"
+                self.closed = f": {fault}" if isinstance(fault, errors.Error) else INTERRUPTED
                 self.transport.abandon()
                 raise
 
@@ -83,8 +84,8 @@ class Connection:
                 self.transport.abandon()
 
     def types_of(self, query: Statement, literals: List[str], count: int) -> List[str]:
-        """The types of a query's outputs. The engine is asked, and runs none of what is asked. It is asked once for each kind of query, and each time where others may
-        change the tables; so a cursor of the query has to be open then."""
+        """The types of a query's outputs. The engine is asked, and runs none of what is asked. It is asked once for each kind of query,
+        and each time where others may change the tables; so a cursor of the query has to be open then."""
         key = query.key(literals)
         known = None if self.is_shared else self.types.get(key)
         if known is None or len(known) != count:
@@ -104,10 +105,12 @@ class Connection:
                 if reply.code not in ("54000", "42804"):
                     raise error_of(reply.code or "XX000", reply.name or f"the engine answered {reply.tag} where it was asked for types")
                 codes.append(reply.code)
-        return ["text" if text == "54000" else "integer" if number == "54000" else "boolean" for number, text in zip(codes[::2], codes[1::2])]
+        pairs = zip(codes[::2], codes[1::2])
+        return ["text" if text == "54000" else "integer" if number == "54000" else "boolean" for number, text in pairs]
 
     def hold_all(self) -> bool:
-        """Has each cursor that is not read to its end read the rest of its rows, so that nothing of this connection's leases a table; whether there was one."""
+        """Has each cursor that is not read to its end read the rest of its rows, so that nothing of this connection's leases a table;
+        whether there was one."""
         cursors = [it for it in self.reading if it.declared]
         for it in cursors:
             it.hold()
@@ -134,7 +137,8 @@ class Connection:
         self.has_written = False
 
     def rollback(self) -> None:
-        """Does nothing where nothing was written since the last commit or rollback. Otherwise fails with NotSupportedError: what was written stays."""
+        """Does nothing where nothing was written since the last commit or rollback. Otherwise fails with NotSupportedError: what was
+        written stays."""
         self.check()
         if self.has_written:
             self.has_written = False

@@ -23,9 +23,10 @@ COUNTED = ("SELECT", "FETCH", "INSERT", "UPDATE", "DELETE")
 class Cursor:
     """Executes statements, and gives out rows as tuples.
 
-    A query is read as it is fetched, `itersize` rows at a time: neither side holds a large answer whole, but for one with ORDER BY, groups, DISTINCT or UNION ALL, which
-    the engine holds, and one that can fault (arithmetic and `sum`), which is sent whole. While rows are left the tables that the query reads are leased: another
-    session's write to them is refused by 55006. It ends with the last row, `close`, or the next `execute`; a write of this connection has the rest read first."""
+    A query is read as it is fetched, `itersize` rows at a time: neither side holds a large answer whole, but for one with ORDER BY,
+    groups, DISTINCT or UNION ALL, which the engine holds, and one that can fault (arithmetic and `sum`), which is sent whole. While rows
+    are left the tables that the query reads are leased: another session's write to them is refused by 55006. It ends with the last row,
+    `close`, or the next `execute`; a write of this connection has the rest read first."""
 
     def __init__(self, connection: "Connection") -> None:
         self.connection, self.is_open = connection, True
@@ -79,7 +80,8 @@ class Cursor:
         self.rows = self.batch(first)
 
     def query_whole(self, query: Statement, literals: List[str], text: str) -> None:
-        """Executes a query whose answer comes whole. Nothing is leased then: where others may change the tables the types before it have to be those after it."""
+        """Executes a query whose answer comes whole. Nothing is leased then: where others may change the tables the types before it have
+        to be those after it."""
         connection = self.connection
         before = connection.types.get(query.key(literals)) if connection.is_shared else None
         while True:
@@ -129,8 +131,9 @@ class Cursor:
         self.description = [(unescaped(name), kind, None, None, None, None, None) for name, kind in zip(names, self.types)]
 
     def executemany(self, sql: str, many: Iterable[Any]) -> "Cursor":
-        """Executes a statement for each of these parameters, and gives itself. An INSERT of one row of VALUES is one statement with all rows, so that they are written
-        whole or not at all; more than 1,048,576 bytes of them are several statements, each of which is whole. `rowcount` is the sum, also where one is refused."""
+        """Executes a statement for each of these parameters, and gives itself. An INSERT of one row of VALUES is one statement with all
+        rows, so that they are written whole or not at all; more than 1,048,576 bytes of them are several statements, each of which is
+        whole. `rowcount` is the sum, also where one is refused."""
         given = list(many)
         with self.connection.lock:
             self.check()

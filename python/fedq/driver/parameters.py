@@ -39,7 +39,8 @@ class Statement:
         return self.words[0]
 
     def literals(self, parameters: Any) -> List[str]:
-        """The literals of its places, in order. Fails with ProgrammingError where there are too few or too many parameters, and as `literal` does."""
+        """The literals of its places, in order. Fails with ProgrammingError where there are too few or too many parameters, and as
+        `literal` does."""
         if isinstance(parameters, Mapping):
             missing = [it for it in self.slots if it not in parameters]
             if missing:
@@ -140,8 +141,8 @@ def formatted(found: Sequence[Token], is_named: bool) -> List[Union[Token, Slot]
 
 
 def statement_of(sql: str, parameters: Any, style: str) -> Statement:
-    """The one statement of a text, with places as these parameters need them. Fails with ProgrammingError (42601) where there is none or more than one, and for a
-    text that no request can have."""
+    """The one statement of a text, with places as these parameters need them. Fails with ProgrammingError (42601) where there is none or
+    more than one, and for a text that no request can have."""
     if not isinstance(sql, str):
         raise InterfaceError(f"a statement is a text, and this is a {type(sql).__name__}")
     return prepared(sql, style, isinstance(parameters, Mapping), parameters is not None)
