@@ -61,9 +61,13 @@ class Connection:
             try:
                 return self.transport.ask([*gone, *requests])[len(gone):]
             except BaseException as fault:
-                self.closed = f": {fault}" if isinstance(fault, errors.Error) else INTERRUPTED
-                self.transport.abandon()
+                self.failed(fault)
                 raise
+
+    def failed(self, fault: BaseException) -> None:
+        """Closes the connection where the stream failed, or an interrupt left it within a request."""
+        self.closed = f": {fault}" if isinstance(fault, errors.Error) else INTERRUPTED
+        self.transport.abandon()
 
     def must(self, request: str, shown: str = "") -> Reply:
         """The reply to a request. Fails by the class of its code where it is refused."""
@@ -79,9 +83,10 @@ class Connection:
                 return
             try:
                 self.transport.tell([request])
-            except errors.Error as fault:
-                self.closed = f": {fault}"
-                self.transport.abandon()
+            except BaseException as fault:
+                self.failed(fault)
+                if not isinstance(fault, errors.Error):  # (what failed is told by the next request)
+                    raise
 
     def types_of(self, query: Statement, literals: List[str], count: int) -> List[str]:
         """The types of a query's outputs. The engine is asked, and runs none of what is asked. It is asked once for each kind of query,

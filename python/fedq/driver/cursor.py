@@ -236,8 +236,8 @@ class Cursor:
     def end(self) -> None:
         """Ends the engine's cursor, and with it the leases."""
         if self.declared:
-            name, self.declared = self.declared, None
-            self.connection.tell(f"Q CLOSE {name}")
+            self.connection.tell(f"Q CLOSE {self.declared}")
+            self.declared = None
 
     def check(self) -> None:
         """Fails with InterfaceError where it, or its connection, is closed."""
