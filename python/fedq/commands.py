@@ -18,21 +18,22 @@ def program() -> NoReturn:
     os.execv(path, ["fedq", *sys.argv[1:]])
 
 
-def room(name: str) -> NoReturn:
-    """Runs a room of this package as a command, over the program in this package where FEDQ_PROGRAM names no other. Texts are UTF-8,
-    whatever the locale says."""
+def room(name: str, *words: str) -> NoReturn:
+    """Runs a room of this package as a command, with these words before those of the command line, over the program in this package where
+    FEDQ_PROGRAM names no other. Texts are UTF-8, whatever the locale says."""
     if locale.getpreferredencoding(False).upper().replace("-", "") != "UTF8" and not sys.flags.utf8_mode:
         os.execv(sys.executable, [sys.executable, "-X", "utf8", *sys.argv])
     path = own_program()
     if path:
         os.environ.setdefault("FEDQ_PROGRAM", path)
+    sys.argv[1:1] = words
     runpy.run_module(f"fedq.{name}", run_name="__main__", alter_sys=True)
     sys.exit(0)
 
 
 def shell() -> NoReturn:
-    """`fedq-shell`."""
-    room("shell")
+    """`fedq-shell`, which looks for `fedq-setup` beside it."""
+    room("shell", os.path.dirname(os.path.abspath(sys.argv[0])))
 
 
 def setup() -> NoReturn:
