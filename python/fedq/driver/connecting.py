@@ -29,7 +29,8 @@ def connect(csv: Sources = None, jsonl: Sources = None, sqlite: Sources = None, 
     - `init`: a file of statements, or a list of statements, that make the objects. Without it the folders are looked at as `fedq-setup`
       does: a table for each file, to read, or with `write` to write too. What cannot be bound is a `fedq.Warning`.
     - `user`: the session's user, by default the owner; `owner`: who may CREATE and DROP, by default admin.
-    - `program`: the program. Else it is what FEDQ_PROGRAM names, the one in this package or of its clone, or `fedq` on the PATH.
+    - `program`: the program. Else it is what FEDQ_PROGRAM names, the one of this package, of its clone or of `make install`,
+      or `fedq` on the PATH.
     - `timeout`: so many seconds are waited for the port's first answer; without end by default.
     - `paramstyle`: qmark (`?`, and `:name` for a mapping) or pyformat (`%s`, and `%(name)s` for a mapping).
 
