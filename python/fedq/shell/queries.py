@@ -1,6 +1,6 @@
 """What the shell reads off a query: its tables, and the types of its columns. It is no parser: where it does not see through a text it says nothing."""
-from catalogue import TYPES
-from statements import Token
+from .catalogue import TYPES
+from .statements import Token
 
 ENDS_FROM = {"where", "group", "having", "order", "limit", "offset"}
 ENDS_ITEMS = ENDS_FROM | {"from"}

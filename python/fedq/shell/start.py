@@ -1,15 +1,15 @@
 """From the words to the end of the shell."""
 import os, subprocess, sys
 
-from commands import Commands, Leave, told_of
-from engine import APART, Ended
-from hints import setup_program
-from interrupts import Interrupts
-from keeper import Broken
-from person import Completer, Lines
-from session import Session
-from statements import Reader, ScriptReader, statements_of
-from words import USAGE, BadWords, read
+from .commands import Commands, Leave, told_of
+from .engine import APART, Ended
+from .hints import setup_program
+from .interrupts import Interrupts
+from .keeper import Broken
+from .person import Completer, Lines
+from .session import Session
+from .statements import Reader, ScriptReader, statements_of
+from .words import USAGE, BadWords, read
 
 PROMPTS = {"": "   -> ", "'": "   '> ", '"': '   "> '}
 REFUSED, INTERRUPTED = 1, 130

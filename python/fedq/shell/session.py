@@ -1,14 +1,14 @@
 """One session: its engine, what was made in it, and what its answers look like."""
 import os, sys, time
 
-from catalogue import Catalogue
-from engine import Ended, Nobody
-from hints import Hints
-from keeper import OWNER, PERSON, WRITES, Broken, Keeper, drop
-from output import Writer, writer
-from person import Spinner, paged
-from queries import Types
-from statements import ScriptReader, statements_of, tokens, written
+from .catalogue import Catalogue
+from .engine import Ended, Nobody
+from .hints import Hints
+from .keeper import OWNER, PERSON, WRITES, Broken, Keeper, drop
+from .output import Writer, writer
+from .person import Spinner, paged
+from .queries import Types
+from .statements import ScriptReader, statements_of, tokens, written
 
 
 class Settings:

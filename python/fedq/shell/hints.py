@@ -1,10 +1,10 @@
 """More about a refusal than its code: the sentence of docs/ERRORS.md, the nearest names, the valid options, and what stands where in a file."""
 import os, re, shutil, subprocess
 
-from catalogue import TYPES, Parser, nearest
-from engine import APART
-from queries import entries, is_name
-from statements import RESERVED, tokens, written
+from .catalogue import TYPES, Parser, nearest
+from .engine import APART
+from .queries import entries, is_name
+from .statements import RESERVED, tokens, written
 
 MOST_FAULTS, MOST_NAMES = 10, 12  # that are shown
 FILE_NAME = re.compile(r"[A-Za-z0-9_-][A-Za-z0-9_.-]{0,254}")

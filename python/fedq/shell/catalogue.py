@@ -1,5 +1,5 @@
 """The objects that the shell knows: it reads the statements on objects that were done."""
-from statements import tokens, written
+from .statements import tokens, written
 
 TYPES = {"smallint": "integer", "integer": "integer", "int": "integer", "bigint": "integer", "text": "text", "boolean": "boolean", "bool": "boolean"}
 # The words that name a kind of objects.

@@ -1,10 +1,10 @@
 """Keeps an engine: begins it, and begins it anew with what was made in it."""
 import os, re, shutil
 
-from catalogue import Parser
-from engine import Connection, Ended, Program
-from queries import entries
-from statements import tokens
+from .catalogue import Parser
+from .engine import Connection, Ended, Program
+from .queries import entries
+from .statements import tokens
 
 PERSON, OWNER = 1, 2  # the numbers of the sessions on the engine: whose shell it is, and who runs --init
 WRITES = re.compile(r"\s*(insert|update|delete)\b", re.I)

@@ -2,7 +2,7 @@
 import os, re, shutil, subprocess, sys
 from contextlib import contextmanager
 
-from words import FORMATS
+from .words import FORMATS
 
 try:
     import readline

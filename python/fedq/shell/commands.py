@@ -1,9 +1,9 @@
 """The commands that begin with a backslash, and the words help, quit and exit."""
 import os
 
-from description import everything, one
-from statements import Reader
-from words import FORMATS
+from .description import everything, one
+from .statements import Reader
+from .words import FORMATS
 
 MOST_NESTED = 16  # files that read one another
 
