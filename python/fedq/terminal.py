@@ -54,3 +54,8 @@ def shell_word(text: str) -> str:
 def path_word(path: str) -> str:
     """A path as one word of a command for `sh`, which no program takes for an option."""
     return shell_word(f"./{path}" if path.startswith("-") else path)
+
+
+def folder_word(folder: str) -> str:
+    """A folder as it follows `NAME=` in a command. Where its name ends in a line end, `/` follows, since no command could end so."""
+    return path_word(folder + "/" if folder.endswith("\n") else folder)

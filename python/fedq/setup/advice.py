@@ -92,11 +92,6 @@ def beside(path: str, end: str) -> str:
     return path_word(os.path.join(os.path.dirname(path), plain_stem(path, "table") + end))
 
 
-def folder_word(folder: str) -> str:
-    """A folder as it follows `NAME=` in a command. Where its name ends in a line end, `/` follows, since no command could end so."""
-    return path_word(folder + "/" if folder.endswith("\n") else folder)
-
-
 def json_text(text: str) -> str:
     """A text as a program of jq has it, in ASCII."""
     return json.dumps(text).replace("\x7f", "\\u007f")

@@ -2,8 +2,8 @@
 import os, re
 from typing import List, Optional
 
-from ..terminal import path_word, shell_word
-from .advice import Refused, Report, beside, folder_word, plain_stem, shown, source_name
+from ..terminal import folder_word, path_word, shell_word
+from .advice import Refused, Report, beside, plain_stem, shown, source_name
 from .csv_files import MOST_ROWS
 
 SHAPES = {

@@ -2,8 +2,8 @@
 import os, re, stat, unicodedata
 from typing import Optional
 
-from ..terminal import path_word, shell_word
-from .advice import Refused, beside, folder_word, python_text
+from ..terminal import folder_word, path_word, shell_word
+from .advice import Refused, beside, python_text
 
 MOST_BYTES = 67_108_864
 OTHER_FILES = set("md py sh sql html htm pdf png jpg doc docx log yml yaml toml xml js css ini cfg bak tmp db sqlite sqlite3".split())

@@ -1,5 +1,7 @@
 """The objects that the shell knows: it reads the statements on objects that were done."""
-from .statements import tokens, written
+from ..names import quoted_name
+from ..sql import quoted_text
+from .statements import tokens
 
 TYPES = {"smallint": "integer", "integer": "integer", "int": "integer", "bigint": "integer", "text": "text", "boolean": "boolean", "bool": "boolean"}
 # The words that name a kind of objects.
@@ -20,7 +22,7 @@ class Column:
         self.name, self.type, self.options = name, type_name, options
 
     def __str__(self):
-        return f"{written(self.name)} {self.type}{options_text(self.options)}{' NOT NULL' if self.is_not_null else ''}"
+        return f"{quoted_name(self.name)} {self.type}{options_text(self.options)}{' NOT NULL' if self.is_not_null else ''}"
 
 
 class Object:
@@ -32,12 +34,12 @@ class Object:
 
     def __str__(self):
         if self.kind == "table":
-            return f"{written(self.name)} ({', '.join(map(str, self.columns))})"
+            return f"{quoted_name(self.name)} ({', '.join(map(str, self.columns))})"
         return self.name
 
 
 def options_text(options):
-    quoted = (f"{name} '" + text.replace("'", "''") + "'" for name, text in options.items())
+    quoted = (f"{name} {quoted_text(text)}" for name, text in options.items())
     return f" OPTIONS ({', '.join(quoted)})" if options else ""
 
 

@@ -1,6 +1,7 @@
 """The commands that begin with a backslash, and the words help, quit and exit."""
 import os
 
+from ..terminal import printable
 from .description import everything, one
 from .statements import Reader
 from .words import FORMATS
@@ -64,8 +65,8 @@ class Commands:
             self.session.tell(f"ERROR: {told_of(fault)}")
             return False
 
-    def acknowledge(self, text):
-        """Tells a person what is set; a script has only rows on its standard output."""
+    def acknowledge(self, text: str) -> None:
+        """Says to a person what is set; a script has only rows on its standard output."""
         if self.session.is_person:
             self.session.show_here(text)
 
@@ -76,8 +77,8 @@ class Commands:
         lines = ["SQL ends with ; and may go over several lines; -- begins a comment. Ctrl-C stops a statement, or drops the line.", *forms,
                  f"NULL is shown as {self.session.settings.null}; in csv it is an empty field, and the empty text \"\"; in json it is null.",
                  "In tables \\\\, \\t, \\n and \\r stand for a backslash, TAB and line ends.",
-                 "docs/LANGUAGE.md has the SQL, docs/SOURCES.md the options, docs/ERRORS.md what each code means.\n"]
-        self.session.show_here("\n".join(lines))
+                 "docs/LANGUAGE.md has the SQL, docs/SOURCES.md the options, docs/ERRORS.md what each code means."]
+        self.session.show_here(*lines)
 
     def leave(self, _argument):
         raise Leave
@@ -85,23 +86,23 @@ class Commands:
     def expand(self, _argument):
         settings = self.session.settings
         settings.is_expanded = not settings.is_expanded
-        self.acknowledge(f"rows are shown {'field by field' if settings.is_expanded else 'as tables'}\n")
+        self.acknowledge(f"rows are shown {'field by field' if settings.is_expanded else 'as tables'}")
 
     def set_format(self, argument):
         settings = self.session.settings
         if argument and argument not in FORMATS:
             raise Failed(f"a format is {', '.join(FORMATS)}: {argument}")
         settings.format = argument or settings.format
-        self.acknowledge(f"the format is {settings.format}\n")
+        self.acknowledge(f"the format is {settings.format}")
 
     def set_null(self, argument):
-        self.session.settings.null = argument.strip("'") if argument else "\u2205"
-        self.acknowledge(f"NULL is shown as '{self.session.settings.null}'\n")
+        self.session.settings.null = printable(argument.strip("'")) if argument else "\u2205"
+        self.acknowledge(f"NULL is shown as '{self.session.settings.null}'")
 
     def switch_pager(self, _argument):
         settings = self.session.settings
         settings.is_paged = not settings.is_paged
-        self.acknowledge(f"the pager is {'on' if settings.is_paged else 'off'}\n")
+        self.acknowledge(f"the pager is {'on' if settings.is_paged else 'off'}")
 
     def redirect(self, argument):
         self.session.open_output(path_of(argument))
@@ -147,7 +148,7 @@ class Commands:
         lines = list(one(catalogue, name) if name else everything(catalogue))
         if not name and self.session.words.port:
             lines.append("(of a served engine the shell knows what was made through it alone; \\d NAME asks for a table's columns)")
-        self.session.show_here("".join(f"{it}\n" for it in lines or [self.asked(name)]))
+        self.session.show_here(*(lines or [self.asked(name)]))
 
     def asked(self, name):
         """The columns of a table that the shell has not seen made, by the engine's answer."""

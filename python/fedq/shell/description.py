@@ -1,4 +1,7 @@
 """What \\d shows of the objects that the shell knows, a line each."""
+from typing import Iterator
+
+from ..terminal import printable
 
 
 def everything(catalogue):
@@ -28,11 +31,12 @@ def one(catalogue, name):
 
 
 def of_table(catalogue, table):
-    longest = max([len(it.name) for it in table.columns] + [0])
+    names = [printable(it.name) for it in table.columns]
+    longest = max([*map(len, names), 0])
     yield f"foreign table {table.name}"
-    for it in table.columns:
+    for name, it in zip(names, table.columns):
         member = f"  member {it.options['member']}" if "member" in it.options else ""
-        yield f"  {it.name:<{longest}}  {it.type}{' NOT NULL' * it.is_not_null}{member}"
+        yield f"  {name:<{longest}}  {it.type}{' NOT NULL' * it.is_not_null}{member}"
     yield f"  of server {table.of}, {source_of(catalogue, table.of)}"
     yield from (f"  {option} '{text}'" for option, text in table.options.items())
 

@@ -1,10 +1,14 @@
 """More about a refusal than its code: the sentence of docs/ERRORS.md, the nearest names, the valid options, and what stands where in a file."""
 import os, re, shutil, subprocess
+from typing import Iterable, Iterator, List
 
+from ..names import quoted_name
+from ..sql import RESERVED
+from ..terminal import folder_word
 from .catalogue import TYPES, Parser, nearest
 from .engine import APART
 from .queries import entries, is_name
-from .statements import RESERVED, tokens, written
+from .statements import tokens
 
 MOST_FAULTS, MOST_NAMES = 10, 12  # that are shown
 FILE_NAME = re.compile(r"[A-Za-z0-9_-][A-Za-z0-9_.-]{0,254}")
@@ -62,7 +66,7 @@ class Hints:
 
     def setup_words(self):
         """The words with which fedq-setup looks at the sources; nothing where there are none, or no fedq-setup."""
-        words = " ".join(f"--{kind} {name}={path}" for kind, name, path in self.catalogue.sources if kind != "list")
+        words = " ".join(f"--{kind} {name}={folder_word(path)}" for kind, name, path in self.catalogue.sources if kind != "list")
         return words if setup_program(self.home) else ""
 
     def unknown_columns(self, text):
@@ -77,7 +81,7 @@ class Hints:
                 continue
             passed.add(it.value)
             if it.value in labels:
-                yield f"only ORDER BY sees {written(it.value)}, which AS names"
+                yield f"only ORDER BY sees {quoted_name(it.value)}, which AS names"
                 continue
             if it.kind == "quoted" and not nearest(it.value, columns):
                 yield f"double quotes make a name; a text stands in single ones: '{it.value}'"
@@ -101,7 +105,7 @@ class Hints:
         tables = self.catalogue.tables
         for server in sorted({tables[name].of for _, name in entries(tokens(text)) if name in tables}):
             if not any(self.catalogue.get("mapping", f"{user} on {server}") for user in (self.user, "public")):
-                yield f"{self.user} has no mapping on {server}: the owner writes CREATE USER MAPPING FOR {self.user} SERVER {written(server)}"
+                yield f"{self.user} has no mapping on {server}: the owner writes CREATE USER MAPPING FOR {self.user} SERVER {quoted_name(server)}"
 
     def length_of_a_type(self, text):
         if re.match(r"\s*create\s+foreign\s+table\b", text, re.I):
@@ -148,7 +152,7 @@ class Hints:
         setup = setup_program(self.home)
         if not setup or path == ":memory:":
             return []
-        command = [setup, "--check", kind, path, name, "--columns", ", ".join(f"{written(it.name)} {it.type}" for it in made.columns)]
+        command = [setup, "--check", kind, path, name, "--columns", ", ".join(f"{quoted_name(it.name)} {it.type}" for it in made.columns)]
         if any(it.options for it in made.columns):
             command += ["--members", ", ".join(it.options.get("member", "") for it in made.columns)]
         for option in ("header", "null"):
@@ -175,4 +179,4 @@ def said_of(what, name, names, where=""):
 
 
 def written_if_name(name):
-    return name if re.fullmatch(r"[\w.-]+", name) else written(name)
+    return name if re.fullmatch(r"[\w.-]+", name) else quoted_name(name)

@@ -15,7 +15,7 @@ class Broken(Exception):
 
 
 class Keeper:
-    """The engine of one shell. `tell` takes what is to be told of it."""
+    """The engine of one shell. `tell` takes lines to be said of it."""
 
     def __init__(self, home, words, interrupts, watcher, catalogue, tell):
         self.home, self.words, self.interrupts, self.watcher, self.catalogue, self.tell = home, words, interrupts, watcher, catalogue, tell
@@ -95,7 +95,7 @@ class Keeper:
             if not reply.code:
                 done.append((session, text))
                 continue
-            self.tell(f"gone: {text}\n  ERROR {reply.code}: {reply.name.replace('_', ' ')}")
+            self.tell(f"gone: {text}", f"  ERROR {reply.code}: {reply.name.replace('_', ' ')}")
             gone = Parser(text).object()
             if gone:
                 self.catalogue.objects.pop((gone.kind, gone.name), None)

@@ -2,28 +2,15 @@
 import re, unicodedata
 from json.encoder import encode_basestring
 
-NULL = "\\N"
+from ..lines import NULL, unescaped
+from ..terminal import printable, printable_rows
+
 START = "1 R\t"  # before the fields of a row, as `1 H` before names
-CONTROLS = re.compile("[\x00-\x08\x0b-\x1f\x7f-\x9f]")
-CONTROL_BYTES = bytes(it for it in [*range(32), 127] if it not in b"\t\n")
-ESCAPE = re.compile(r"\\(.)")
-MEANT = {"\\": "\\", "t": "\t", "n": "\n", "r": "\r"}
 IS_NUMBER = re.compile(r"-?[0-9]+|\\N").fullmatch
 NEEDS_QUOTES = re.compile('[",\r\n]')
 # Where none of these is in a page, and no empty field at its ends, a TAB is a comma of CSV.
 BEYOND_COMMAS = '"', ",", "\\", "\t\t", "\t\n", "\n\t", "\n\n"
 MOST_KEPT = 1000000  # fields of a table that are kept as they are shown; of more the text is, and is parted once more in the end
-
-
-def unescaped(text):
-    return ESCAPE.sub(lambda it: MEANT.get(it[1], it[0]), text) if "\\" in text else text
-
-
-def without_controls(text):
-    """A text with ? for control characters, TAB and LF left out: nothing is to reach the terminal as a command."""
-    if text.isascii() and len(text) == len(text.encode().translate(None, CONTROL_BYTES)):
-        return text
-    return CONTROLS.sub("?", text)
 
 
 def width_of(text):
@@ -76,7 +63,7 @@ class Writer:
 
     def cells(self, text):
         """All fields of a page, one row after the other, as a table shows them."""
-        cells = without_controls(text).replace("\n", "\t").split("\t")
+        cells = printable_rows(text).replace("\n", "\t").split("\t")
         if NULL in text:
             null = self.settings.null
             cells = [null if it == NULL else it for it in cells]
@@ -87,7 +74,7 @@ class Aligned(Writer):
     """A table. Its pages are kept until all are there, since the widest field of a column says how wide it is."""
 
     def header(self):
-        self.names = list(map(without_controls, self.names))
+        self.names = list(map(printable, self.names))
         self.pages, self.widths = [], list(map(width_of, self.names))
         self.is_right, self.has_values = [it in ("", "integer") for it in self.types], [False] * len(self.names)
 
@@ -141,7 +128,7 @@ class Expanded(Writer):
     """One line for each field. The pages are kept, so that the pager is told how many lines there are."""
 
     def header(self):
-        self.names = list(map(without_controls, self.names))
+        self.names = list(map(printable, self.names))
         self.pages, wide = [], max(map(width_of, self.names))
         self.heads = [f"{padded(it, wide, False)} | " for it in self.names]
         self.wide = wide + 3

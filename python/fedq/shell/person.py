@@ -2,6 +2,7 @@
 import os, re, shutil, subprocess, sys
 from contextlib import contextmanager
 
+from ..terminal import printable
 from .words import FORMATS
 
 try:
@@ -120,13 +121,13 @@ class Completer:
 
 
 def files(text):
-    """Paths that begin with `text`."""
+    """Paths that begin with `text`; those that a terminal may not show are left out."""
     folder, _, begin = text.rpartition("/")
     try:
         names = sorted(os.listdir(folder + "/" if "/" in text else "."))
     except OSError:
         return []
-    paths = [f"{folder}/{it}" if "/" in text else it for it in names if it.startswith(begin)]
+    paths = [f"{folder}/{it}" if "/" in text else it for it in names if it.startswith(begin) and printable(it) == it]
     return [it + "/" if os.path.isdir(it) else it for it in paths]
 
 

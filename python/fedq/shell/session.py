@@ -1,6 +1,8 @@
 """One session: its engine, what was made in it, and what its answers look like."""
 import os, sys, time
 
+from ..names import quoted_name
+from ..terminal import printable
 from .catalogue import Catalogue
 from .engine import Ended, Nobody
 from .hints import Hints
@@ -8,14 +10,14 @@ from .keeper import OWNER, PERSON, WRITES, Broken, Keeper, drop
 from .output import Writer, writer
 from .person import Spinner, paged
 from .queries import Types
-from .statements import ScriptReader, statements_of, tokens, written
+from .statements import ScriptReader, statements_of, tokens
 
 
 class Settings:
     """How answers are shown."""
 
     def __init__(self, words):
-        self.format, self.is_expanded, self.null, self.is_paged = words.format, words.is_expanded, words.null, True
+        self.format, self.is_expanded, self.null, self.is_paged = words.format, words.is_expanded, printable(words.null), True
 
 
 class Session:
@@ -75,7 +77,7 @@ class Session:
             self.note_cursor(statement.text, reply)
             self.show_answer(shown, reply)
             if self.is_person and self.settings.format == "aligned":
-                self.show_here(f"Time: {(time.monotonic() - began) * 1000:.1f} ms\n")
+                self.show_here(f"Time: {(time.monotonic() - began) * 1000:.1f} ms")
         return bool(reply and not reply.code)
 
     def reply_to(self, text, shown):
@@ -115,7 +117,7 @@ class Session:
             pass
         if engine.is_busy and self.is_person:
             is_write = bool(WRITES.match(text))
-            self.tell(f"\nstopped after {seconds:.1f} s{'; look whether its rows were written' * is_write}")
+            self.tell("", f"stopped after {seconds:.1f} s{'; look whether its rows were written' * is_write}")
             self.keeper.begin_anew()
             left = [os.path.join(path, ".fedq.tmp") for kind, _, path in self.words.sources if kind in ("csv", "jsonl")] if is_write else []
             for path in filter(os.path.exists, left):
@@ -145,15 +147,15 @@ class Session:
         """Writes rows to where rows go."""
         self.output.write(text.encode(errors="replace"))
 
-    def show_here(self, text):
-        """Writes to standard output, wherever rows go."""
-        sys.stdout.buffer.write(text.encode(errors="replace"))
+    def show_here(self, *lines: str) -> None:
+        """Writes lines to standard output, wherever rows go, as a terminal may show them."""
+        sys.stdout.buffer.write("".join(f"{printable(it)}\n" for it in lines).encode())
         sys.stdout.buffer.flush()
 
     def show_answer(self, shown, reply):
         if not shown.names:
             if self.settings.format == "aligned":
-                self.show_here(f"{reply.tag}\n")
+                self.show_here(reply.tag)
             return
         is_paged = self.is_person and self.settings.is_paged and not self.output_name
         try:
@@ -174,10 +176,10 @@ class Session:
             self.output.close()
         self.output, self.output_name = opened, name
 
-    def tell(self, text):
-        """Writes to standard error, behind what standard output has so far."""
+    def tell(self, *lines: str) -> None:
+        """Writes lines to standard error, after what standard output has so far, as a terminal may show them."""
         sys.stdout.buffer.flush()
-        sys.stderr.buffer.write(f"{text}\n".encode(errors="replace"))
+        sys.stderr.buffer.write("".join(f"{printable(it)}\n" for it in lines).encode())
         sys.stderr.buffer.flush()
 
     def tell_fault(self, statement, name):
@@ -195,12 +197,12 @@ class Session:
             with self.interrupts.allowed():
                 lines += [f"  {it}" for it in self.hints.lines(reply.code, statement.text)]
         finally:
-            self.tell("\n".join(lines))
+            self.tell(*lines)
 
     def names_of_columns(self, name):
         """The columns of a table that was made elsewhere, by the engine's answer; None where there is no such table."""
         shown = Writer(self.settings, [], drop)
-        reply = self.reply_to(f"SELECT * FROM {written(name)} LIMIT 0", shown) if self.keeper.catch_up() else None
+        reply = self.reply_to(f"SELECT * FROM {quoted_name(name)} LIMIT 0", shown) if self.keeper.catch_up() else None
         return shown.names if reply and not reply.code else None
 
     def place(self, statement, name):

@@ -1,6 +1,7 @@
 """From the words to the end of the shell."""
 import os, subprocess, sys
 
+from ..terminal import printable
 from .commands import Commands, Leave, told_of
 from .engine import APART, Ended
 from .hints import setup_program
@@ -30,9 +31,10 @@ def main(home, given):
     return Shell(home, words).run()
 
 
-def fail(text, status):
+def fail(text: object, status: int) -> int:
+    """Prints why the shell ends, and gives this status."""
     sys.stdout.flush()
-    print(f"fedq-shell: {text}", file=sys.stderr)
+    print(f"fedq-shell: {printable(str(text))}", file=sys.stderr)
     return status
 
 
@@ -118,7 +120,7 @@ class Shell:
     def run_person(self, commands):
         """Reads and does what a person types, to the end."""
         self.lines = Lines(Completer(self.session.catalogue, commands.known))
-        self.session.show_here("Type \\? for help.\n")
+        self.session.show_here("Type \\? for help.")
         reader = Reader()
         while True:
             try:
@@ -128,10 +130,10 @@ class Shell:
                     commands.take(reader, line, 0, "")
             except KeyboardInterrupt:
                 self.session.watcher.clear()
-                self.session.show_here("\n")
+                self.session.show_here("")
                 reader.drop()
             except EOFError:
-                self.session.show_here("\n")
+                self.session.show_here("")
                 if reader.is_inside:
                     self.session.tell("the unfinished statement was not run")
                 return
@@ -162,4 +164,4 @@ class Shell:
         for statement in statements_of(text, ScriptReader()):
             self.session.run_as_owner(statement, "fedq-setup")
         tables = self.session.catalogue.of_kind("table")
-        self.session.show_here("".join(f"{it}\n" for it in tables) + f"({len(tables)} table{'s' * (len(tables) != 1)})\n")
+        self.session.show_here(*map(str, tables), f"({len(tables)} table{'s' * (len(tables) != 1)})")

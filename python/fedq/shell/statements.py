@@ -1,23 +1,19 @@
 """Statements: how lines are cut into them, and statements into tokens."""
 import re
 from collections import namedtuple
+from typing import List, Optional
+
+from .. import sql
 
 LONGEST = 1_048_500  # of a statement, in bytes: a request line has 1,048,576
 PIECE = re.compile(r"""'[^']*'?|"[^"]*"?|--.*|;|[^'";-]+|-""", re.S)
-TOKEN = re.compile(r"""\s*(?:--.*|(?P<word>[A-Za-z_][A-Za-z0-9_$]*)|(?P<quoted>"(?:[^"]|"")*")|(?P<text>'(?:[^']|'')*')|(?P<number>[0-9]+)"""
-                   r"""|(?P<mark><>|<=|>=|!=|\S))""")
 # Words that begin a statement, and stand nowhere else in one.
 BEGINS = re.compile(r"\s*(create|drop|insert|update|delete|declare|fetch)\b", re.I)
 BEFORE_SELECT = re.compile(r"\s*(insert|declare)\b(?!.*\bselect\b)", re.I | re.S)
 
-RESERVED = frozenset(
-    "all and as asc between by case create cross current_user declare delete desc distinct drop else end except false fetch for foreign from full group "
-    "having in inner insert intersect into is join left like limit natural not null offset on or order outer right select set then true union update user "
-    "using values when where with".split())
-
 # A statement's text, the line in which it begins, and what is wrong with it before it is asked (or nothing).
 Statement = namedtuple("Statement", "text line fault")
-# Its kind is `word` (its value in lower case), `quoted`, `text` (their values without quotes), `number` or `mark`.
+# Its kind is `word` (its value in lower case), `quoted`, `text` (their values without quotes), `number`, `parameter` or `mark`.
 Token = namedtuple("Token", "kind value")
 
 
@@ -112,20 +108,9 @@ def statements_of(text, reader=None):
     return found + reader.rest()
 
 
-def tokens(text):
-    """The tokens of a statement, comments left out."""
-    found = []
-    for it in TOKEN.finditer(text):
-        kind, value = it.lastgroup, it.group(it.lastgroup) if it.lastgroup else ""
-        if kind == "word":
-            value = value.lower()
-        elif kind in ("quoted", "text"):
-            value = value[1:-1].replace(value[0] * 2, value[0])
-        if kind:
-            found.append(Token(kind, value))
-    return found
-
-
-def written(name):
-    """A name as it stands in a statement: quoted where it must be."""
-    return name if re.fullmatch(r"[a-z_][a-z0-9_$]*", name) and name not in RESERVED else '"' + name.replace('"', '""') + '"'
+def tokens(text: str) -> List[Token]:
+    """The tokens of a statement, comments left out; none where it is no SQL that can be asked, as where a comment is not closed."""
+    try:
+        return [Token(it.kind, it.value) for it in sql.tokens(text)]
+    except sql.Unsayable:
+        return []
