@@ -20,6 +20,8 @@ def guarded(call: Callable, path: str, report: Report) -> object:
         return call(path, report)
     except Refused as refused:
         report.fault(refused.why, refused.line)
+    except UnicodeDecodeError as error:  # (of SQLite, whose message names what is no UTF-8)
+        report.fault(f" is no database that fedq opens: {error.object.decode(errors='surrogateescape')}")
     except Exception as error:  # (of SQLite: whatever is no database)
         if type(error).__module__ != "sqlite3":
             raise
