@@ -19,8 +19,8 @@ def escape(found: "re.Match") -> str:
 
 
 def printable(text: str) -> str:
-    """A text as a terminal may show it, on one line: nothing of it is a command to the terminal, ends a line or turns the direction of text. What is
-    printable stays as it is, a backslash too."""
+    """A text as a terminal may show it, on one line: nothing of it is a command to the terminal, ends a line or turns the direction of
+    text. What is printable stays as it is, a backslash too."""
     if text.isascii() and len(text) == len(text.encode().translate(None, UNSAFE_BYTES)):
         return text
     return UNSAFE.sub(escape, text)
@@ -39,8 +39,8 @@ def octal(text: str) -> str:
 
 
 def shell_word(text: str) -> str:
-    """A text as one word of a command for `sh`. Where it is not safe to show, printf makes it. Fails with ValueError where such a text ends in LF, since `$(..)`
-    takes LF away at the end."""
+    """A text as one word of a command for `sh`. Where it is not safe to show, printf makes it. Fails with ValueError where such a text
+    ends in LF, since `$(..)` takes LF away at the end."""
     if printable(text) == text:
         import shlex
         return shlex.quote(text)

@@ -1,4 +1,5 @@
-"""Starts fedq-setup: `python3 .../fedq/setup/__main__.py WORDS`. This file is written for any python3, so that an old one says which is needed."""
+"""Starts fedq-setup: `python3 .../fedq/setup/__main__.py WORDS`. This file is written for any python3, so that an old one says which is
+needed."""
 import os
 import sys
 

@@ -1,4 +1,5 @@
-"""Access control lists of POSIX. The program cannot see them: a write makes a new file, which has none, or the folder's default one, and may be read by others."""
+"""Access control lists of POSIX. The program cannot see them: a write makes a new file, which has none, or the folder's default one, and
+may be read by others."""
 import errno, os
 from typing import Optional
 

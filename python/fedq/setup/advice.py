@@ -1,4 +1,5 @@
-"""What is said of a file: faults, warnings, and the commands that are the way out. A command is safe to paste, whatever a name in it holds."""
+"""What is said of a file: faults, warnings, and the commands that are the way out. A command is safe to paste, whatever a name in it
+holds."""
 import json, os, re, sys
 from typing import List, Optional, Set, TextIO
 

@@ -15,11 +15,13 @@ TYPES = {**dict.fromkeys(("smallint", "integer", "int", "bigint"), "integer"), "
 
 
 # What is said of a field that looks so, and is not of its type.
-HINTS = {"whole": " (pandas writes one so beside missing values)", "decimal": ": a decimal; declare it as text", "large": ": beyond the largest"}
+HINTS = {"whole": " (pandas writes one so beside missing values)", "decimal": ": a decimal; declare it as text",
+         "large": ": beyond the largest"}
 
 
 def declared(text: str) -> List[Tuple[str, str, Optional[str]]]:
-    """The columns of the text between the parentheses of CREATE FOREIGN TABLE: name, type, and member or None. Fails with Unsayable where it is no SQL."""
+    """The columns of the text between the parentheses of CREATE FOREIGN TABLE: name, type, and member or None. Fails with Unsayable where
+    it is no SQL."""
     parts, depth_now = [[]], 0
     for token in tokens(text):
         depth_now += (token.raw == "(") - (token.raw == ")")
@@ -150,7 +152,8 @@ def place_fault(folder: str, file: str) -> Optional[str]:
 
 
 def check(words: "argparse.Namespace", usage_fault: Callable[[str], int]) -> int:
-    """Prints why a foreign table cannot be bound; the exit status. `usage_fault` prints what is wrong with the words, and gives the status of that."""
+    """Prints why a foreign table cannot be bound; the exit status. `usage_fault` prints what is wrong with the words, and gives the
+    status of that."""
     kind, folder, words.file = words.check
     if kind not in CHECKS or words.columns is None:
         return usage_fault("--check takes csv, jsonl or sqlite, a folder and a file, and --columns")

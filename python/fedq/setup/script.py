@@ -59,8 +59,8 @@ def tables_of_folder(kind: str, folder: str, is_of_both: bool) -> List[tuple]:
 
 
 class Script:
-    """The init file as it grows, and what is said beside it. `writes` and `writes_lists` are whether mappings are for writing too, and whether they are where a
-    file has an access control list."""
+    """The init file as it grows, and what is said beside it. `writes` and `writes_lists` are whether mappings are for writing too, and
+    whether they are where a file has an access control list."""
 
     def __init__(self, writes: bool = False, writes_lists: bool = False) -> None:
         self.lines, self.said, self.taken, self.wrappers, self.failed = [], [], set(), set(), False
@@ -80,8 +80,8 @@ class Script:
                        f"CREATE USER MAPPING FOR PUBLIC SERVER {name}" + " OPTIONS (mode 'write')" * writes]
 
     def may_write(self, name: str, folder: str, files: "List[Tuple[str, Report]]") -> bool:
-        """Whether the tables of these files are bound for writing. Each access control list is reported, in the file's own report; a mapping is one for all
-        tables of a source."""
+        """Whether the tables of these files are bound for writing. Each access control list is reported, in the file's own report; a
+        mapping is one for all tables of a source."""
         if not self.writes:
             return False
         of_folder = Report(folder)
@@ -131,7 +131,8 @@ class Script:
         self.take(report)
 
     def write(self, path: Optional[str]) -> None:
-        """Writes the script to a file, or to standard output where no path is given. A terminal is shown what it may show; a file and a pipe have each byte."""
+        """Writes the script to a file, or to standard output where no path is given. A terminal is shown what it may show; a file and a
+        pipe have each byte."""
         text = "".join(f"{it}\n" for it in self.lines)
         if path:
             with open(path, "w", encoding="utf-8", newline="\n") as file:

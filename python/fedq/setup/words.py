@@ -17,8 +17,8 @@ The status is 1 where something could not be bound, 2 where the words are wrong.
 fedq cannot see access control lists, so a write may widen who reads a file that has one: --write reports each, and binds the tables of its
 source for reading alone; --write-acl binds them for writing all the same.
 
---check prints on standard output why a CREATE FOREIGN TABLE over FILE is refused, a line for each fault, and ends with 1 where there is one.
-Of a database FOLDER is the database, and FILE its table."""
+--check prints on standard output why a CREATE FOREIGN TABLE over FILE is refused, a line for each fault, and ends with 1 where
+there is one. Of a database FOLDER is the database, and FILE its table."""
 
 
 def usage_fault(said: str) -> int:

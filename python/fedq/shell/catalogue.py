@@ -1,9 +1,14 @@
 """The objects that the shell knows: it reads the statements on objects that were done."""
+from __future__ import annotations
+
+from collections.abc import Iterable
+
 from ..names import quoted_name
 from ..sql import quoted_text
 from .statements import tokens
 
-TYPES = {"smallint": "integer", "integer": "integer", "int": "integer", "bigint": "integer", "text": "text", "boolean": "boolean", "bool": "boolean"}
+TYPES = {"smallint": "integer", "integer": "integer", "int": "integer", "bigint": "integer", "text": "text",
+         "boolean": "boolean", "bool": "boolean"}
 # The words that name a kind of objects.
 KINDS = {"table": ("foreign", "table"), "wrapper": ("foreign", "data", "wrapper"), "server": ("server", ), "mapping": ("user", "mapping")}
 # What `--list NAME` makes, as docs/SOURCES.md shows it.
@@ -18,7 +23,7 @@ class Column:
     """A column of a foreign table, as it was declared."""
     is_not_null = False
 
-    def __init__(self, name, type_name, options):
+    def __init__(self, name, type_name, options) -> None:
         self.name, self.type, self.options = name, type_name, options
 
     def __str__(self):
@@ -29,7 +34,7 @@ class Object:
     """What a statement makes or drops. `kind` is table, server, wrapper or mapping; `of` what it stands on (of a wrapper: its HANDLER)."""
     of = ""
 
-    def __init__(self, kind, name, is_drop):
+    def __init__(self, kind, name, is_drop) -> None:
         self.kind, self.name, self.is_drop, self.columns, self.options = kind, name, is_drop, [], {}
 
     def __str__(self):
@@ -38,7 +43,7 @@ class Object:
         return self.name
 
 
-def options_text(options):
+def options_text(options: dict[str, str]) -> str:
     quoted = (f"{name} {quoted_text(text)}" for name, text in options.items())
     return f" OPTIONS ({', '.join(quoted)})" if options else ""
 
@@ -46,26 +51,26 @@ def options_text(options):
 class Parser:
     """Reads one statement on objects; what is no such statement it leaves alone, as None."""
 
-    def __init__(self, text):
+    def __init__(self, text) -> None:
         self.tokens, self.at = tokens(text), 0
 
-    def next(self):
+    def next(self) -> str:
         """The next token's value; nothing at the end."""
         self.at += 1
         return self.tokens[self.at - 1].value if self.at <= len(self.tokens) else ""
 
-    def has(self, *values):
+    def has(self, *values: str) -> bool:
         """Whether these words come next; they are then read."""
         found = self.tokens[self.at:self.at + len(values)]
         is_so = len(found) == len(values) and all(it.value == value and it.kind in ("word", "mark") for it, value in zip(found, values))
         self.at += len(values) * is_so
         return is_so
 
-    def skip_to(self, *words):
+    def skip_to(self, *words: str) -> None:
         while self.at < len(self.tokens) and not self.has(*words):
             self.at += 1
 
-    def object(self):
+    def object(self) -> Object | None:
         """The Object of this statement, or None."""
         verb = self.next()
         if verb not in ("create", "drop"):
@@ -79,21 +84,21 @@ class Parser:
                 return found
         return None
 
-    def wrapper(self, found):
+    def wrapper(self, found: Object) -> None:
         self.skip_to("handler")
         found.of = self.next()
 
-    def server(self, found):
+    def server(self, found: Object) -> None:
         self.skip_to("foreign", "data", "wrapper")
         found.of = self.next()
         found.options = self.options()
 
-    def mapping(self, found):
+    def mapping(self, found: Object) -> None:
         self.skip_to("server")
         found.of = self.next()
         found.name, found.options = f"{found.name} on {found.of}", self.options()
 
-    def table(self, found):
+    def table(self, found: Object) -> None:
         if self.has("("):
             while self.at < len(self.tokens) and not self.has(")"):
                 found.columns.append(self.column())
@@ -102,7 +107,7 @@ class Parser:
         found.of = self.next()
         found.options = self.options()
 
-    def column(self):
+    def column(self) -> Column:
         name, type_name = self.next(), self.next()
         found = Column(name, type_name, self.options())
         found.is_not_null = self.has("not", "null")
@@ -110,7 +115,7 @@ class Parser:
             self.at += 1
         return found
 
-    def options(self):
+    def options(self) -> dict[str, str]:
         found = {}
         if self.has("options", "("):
             while self.at < len(self.tokens) and not self.has(")"):
@@ -129,7 +134,7 @@ class Catalogue:
             for text in DEMO.format(name).split(";") if kind == "list" else ():
                 self.note(text)
 
-    def note(self, text):
+    def note(self, text: str) -> None:
         """Takes in what a statement made or dropped that was done."""
         found = Parser(text).object()
         if found and found.is_drop:
@@ -137,17 +142,17 @@ class Catalogue:
         elif found:
             self.objects.setdefault((found.kind, found.name), found)
 
-    def of_kind(self, kind):
+    def of_kind(self, kind: str) -> list[Object]:
         return [it for it in self.objects.values() if it.kind == kind]
 
-    def get(self, kind, name):
+    def get(self, kind: str, name: str) -> Object | None:
         return self.objects.get((kind, name))
 
     @property
-    def tables(self):
+    def tables(self) -> dict[str, Object]:
         return {it.name: it for it in self.of_kind("table")}
 
-    def source_of(self, server_name):
+    def source_of(self, server_name: str) -> tuple[str, str, str]:
         """Kind, name and path of the source behind a server; nothing of what is not known."""
         server = self.get("server", server_name)
         wrapper = server and self.get("wrapper", server.of)
@@ -157,14 +162,14 @@ class Catalogue:
                 return kind, name, path
         return wrapper.of if wrapper else "", name, ""
 
-    def is_in_memory(self, table_name):
+    def is_in_memory(self, table_name: str) -> bool:
         """Whether the rows of a table end with the program."""
         table = self.get("table", table_name)
         kind, _, path = self.source_of(table.of) if table else ("", "", "")
         return kind == "list" or kind == "sqlite" and path == ":memory:"
 
 
-def nearest(name, names):
+def nearest(name: str, names: Iterable[str]) -> list[str]:
     """Up to three of `names` that are spelt almost as `name`."""
     import difflib
     folded = {it.lower(): it for it in names}

@@ -1,4 +1,6 @@
 """The commands that begin with a backslash, and the words help, quit and exit."""
+from __future__ import annotations
+
 import os
 
 from ..terminal import printable
@@ -17,12 +19,12 @@ class Failed(Exception):
     """A command could not be done; the text says why."""
 
 
-def told_of(fault):
+def told_of(fault: Exception) -> str:
     """A fault's text; of one of the system the file and why."""
     return f"{fault.filename}: {fault.strerror}" if isinstance(fault, OSError) and fault.filename else str(fault)
 
 
-def path_of(argument):
+def path_of(argument: str) -> str:
     """A path as it was typed, in quotes or without."""
     return os.path.expanduser(argument.strip("'\""))
 
@@ -30,7 +32,7 @@ def path_of(argument):
 class Commands:
     """Does what command lines say."""
 
-    def __init__(self, session):
+    def __init__(self, session) -> None:
         self.session, self.depth = session, 0
         self.known = {
             "\\d": ("[NAME]", "the tables, servers, mappings and sources; or one of them", self.describe),
@@ -44,13 +46,14 @@ class Commands:
             "\\q": ("", "leaves; also quit, exit and Ctrl-D", self.leave),
         }
 
-    def is_command(self, line, is_inside, is_typed):
-        """Whether a line is a command. Within a statement the words are so only where a person types them: a file may have a column help."""
+    def is_command(self, line: str, is_inside: bool, is_typed: bool) -> bool:
+        """Whether a line is a command. Within a statement the words are so only where a person types them: a file may have a column
+        help."""
         word = line.strip().rstrip(";").strip()
         is_word = word.lower() in ("help", "quit", "exit")
         return word.startswith("\\") or is_word and (is_typed or not is_inside)
 
-    def obey(self, line):
+    def obey(self, line: str) -> bool:
         """Does what a command line says; whether it could be done. Raises Leave."""
         name, _, argument = line.strip().rstrip(";").strip().partition(" ")
         name = {"help": "\\?", "quit": "\\q", "exit": "\\q", "\\dt": "\\d"}.get(name.lower(), name)
@@ -72,42 +75,43 @@ class Commands:
 
     # Each takes its argument.
 
-    def help(self, _argument):
+    def help(self, _argument: str) -> None:
         forms = [f"  {f'{name} {argument}':<18}{what}" for name, (argument, what, _) in self.known.items()]
         lines = ["SQL ends with ; and may go over several lines; -- begins a comment. Ctrl-C stops a statement, or drops the line.", *forms,
-                 f"NULL is shown as {self.session.settings.null}; in csv it is an empty field, and the empty text \"\"; in json it is null.",
+                 f"NULL is shown as {self.session.settings.null}; in csv it is an empty field, and the empty text \"\"; "
+                 "in json it is null.",
                  "In tables \\\\, \\t, \\n and \\r stand for a backslash, TAB and line ends.",
                  "docs/LANGUAGE.md has the SQL, docs/SOURCES.md the options, docs/ERRORS.md what each code means."]
         self.session.show_here(*lines)
 
-    def leave(self, _argument):
+    def leave(self, _argument: str) -> None:
         raise Leave
 
-    def expand(self, _argument):
+    def expand(self, _argument: str) -> None:
         settings = self.session.settings
         settings.is_expanded = not settings.is_expanded
         self.acknowledge(f"rows are shown {'field by field' if settings.is_expanded else 'as tables'}")
 
-    def set_format(self, argument):
+    def set_format(self, argument: str) -> None:
         settings = self.session.settings
         if argument and argument not in FORMATS:
             raise Failed(f"a format is {', '.join(FORMATS)}: {argument}")
         settings.format = argument or settings.format
         self.acknowledge(f"the format is {settings.format}")
 
-    def set_null(self, argument):
+    def set_null(self, argument: str) -> None:
         self.session.settings.null = printable(argument.strip("'")) if argument else "\u2205"
         self.acknowledge(f"NULL is shown as '{self.session.settings.null}'")
 
-    def switch_pager(self, _argument):
+    def switch_pager(self, _argument: str) -> None:
         settings = self.session.settings
         settings.is_paged = not settings.is_paged
         self.acknowledge(f"the pager is {'on' if settings.is_paged else 'off'}")
 
-    def redirect(self, argument):
+    def redirect(self, argument: str) -> None:
         self.session.open_output(path_of(argument))
 
-    def include(self, argument):
+    def include(self, argument: str) -> bool:
         if not argument:
             raise Failed("\\i needs a file")
         if self.depth == MOST_NESTED:
@@ -122,7 +126,7 @@ class Commands:
         finally:
             self.depth -= 1
 
-    def run_lines(self, lines, name):
+    def run_lines(self, lines: list[str], name: str) -> bool:
         """Runs statements and commands of a file or of a word; whether all were done."""
         reader, is_good = Reader(), True
         for number, line in enumerate(lines, 1):
@@ -131,7 +135,7 @@ class Commands:
                 return False
         return all([self.session.run(it, name) for it in reader.rest()]) and is_good
 
-    def take(self, reader, line, number, name):
+    def take(self, reader: Reader, line: str, number: int, name: str) -> bool:
         """Runs what ends in a line; whether all was done."""
         if self.is_command(line, reader.is_inside, self.session.is_person and not name):
             return self.obey(line)
@@ -142,7 +146,7 @@ class Commands:
                 break
         return is_good
 
-    def describe(self, argument):
+    def describe(self, argument: str) -> None:
         catalogue = self.session.catalogue
         name = argument[1:-1].replace('""', '"') if argument.startswith('"') else argument.lower()
         lines = list(one(catalogue, name) if name else everything(catalogue))
@@ -150,7 +154,7 @@ class Commands:
             lines.append("(of a served engine the shell knows what was made through it alone; \\d NAME asks for a table's columns)")
         self.session.show_here(*(lines or [self.asked(name)]))
 
-    def asked(self, name):
+    def asked(self, name: str) -> str:
         """The columns of a table that the shell has not seen made, by the engine's answer."""
         names = self.session.names_of_columns(name)
         if names is None:

@@ -1,10 +1,15 @@
 """What \\d shows of the objects that the shell knows, a line each."""
-from typing import Iterator
+from __future__ import annotations
+
+from collections.abc import Iterator
 
 from ..terminal import printable
 
+if False:  # (for the types alone)
+    from .catalogue import Catalogue, Object
 
-def everything(catalogue):
+
+def everything(catalogue: Catalogue) -> Iterator[str]:
     """Tables, servers, mappings, and sources without a server."""
     tables = catalogue.of_kind("table")
     yield from map(str, tables)
@@ -19,7 +24,7 @@ def everything(catalogue):
             yield f"{written_source(*source)}: no server has it"
 
 
-def one(catalogue, name):
+def one(catalogue: Catalogue, name: str) -> Iterator[str]:
     """The table or server of this name; nothing where there is none."""
     table, server = catalogue.get("table", name), catalogue.get("server", name)
     if table:
@@ -30,7 +35,7 @@ def one(catalogue, name):
         yield from (f"  {mapping(it)}" for it in catalogue.of_kind("mapping") if it.of == name)
 
 
-def of_table(catalogue, table):
+def of_table(catalogue: Catalogue, table: Object) -> Iterator[str]:
     names = [printable(it.name) for it in table.columns]
     longest = max([*map(len, names), 0])
     yield f"foreign table {table.name}"
@@ -41,13 +46,13 @@ def of_table(catalogue, table):
     yield from (f"  {option} '{text}'" for option, text in table.options.items())
 
 
-def mapping(it):
+def mapping(it: Object) -> str:
     return f"mapping {it.name}: {it.options.get('mode', 'read')}"
 
 
-def source_of(catalogue, server):
+def source_of(catalogue: Catalogue, server: str) -> str:
     return written_source(*catalogue.source_of(server))
 
 
-def written_source(kind, name, path):
+def written_source(kind: str, name: str, path: str) -> str:
     return f"source {name} ({kind}{' ' * bool(path)}{path})"

@@ -1,4 +1,6 @@
 """One session: its engine, what was made in it, and what its answers look like."""
+from __future__ import annotations
+
 import os, sys, time
 
 from ..names import quoted_name
@@ -12,18 +14,22 @@ from .person import Spinner, paged
 from .queries import Types
 from .statements import ScriptReader, statements_of, tokens
 
+if False:  # (for the types alone)
+    from .engine import Reply
+    from .statements import Statement
+
 
 class Settings:
     """How answers are shown."""
 
-    def __init__(self, words):
+    def __init__(self, words) -> None:
         self.format, self.is_expanded, self.null, self.is_paged = words.format, words.is_expanded, printable(words.null), True
 
 
 class Session:
     """Asks statements and shows their answers."""
 
-    def __init__(self, home, words, interrupts, is_person):
+    def __init__(self, home, words, interrupts, is_person) -> None:
         self.home, self.words, self.interrupts, self.is_person = home, words, interrupts, is_person
         self.settings, self.output, self.output_name = Settings(words), sys.stdout.buffer, ""
         self.catalogue = Catalogue(words.sources)
@@ -35,7 +41,7 @@ class Session:
 
     # Statements
 
-    def run_init(self, name):
+    def run_init(self, name: str) -> None:
         """Runs an init file as the owner; raises Broken where it cannot be read or a statement is refused."""
         try:
             with open(name, "rb") as file:
@@ -48,7 +54,7 @@ class Session:
             if not self.run_as_owner(statement, name):
                 raise Broken(f"{name} was not run to its end, and no statement behind it")
 
-    def run_as_owner(self, statement, name):
+    def run_as_owner(self, statement: Statement, name: str) -> bool:
         """Runs one statement of the owner; whether it was done. A refusal is told."""
         if statement.fault:
             self.tell_fault(statement, name)
@@ -60,7 +66,7 @@ class Session:
             self.keeper.note(OWNER, statement.text, reply)
         return not reply.code
 
-    def run(self, statement, name=""):
+    def run(self, statement: Statement, name: str = "") -> bool:
         """Asks a statement and shows its answer; whether it was done. `name` is the file that it stands in."""
         if statement.fault:
             self.tell_fault(statement, name)
@@ -80,7 +86,7 @@ class Session:
                 self.show_here(f"Time: {(time.monotonic() - began) * 1000:.1f} ms")
         return bool(reply and not reply.code)
 
-    def reply_to(self, text, shown):
+    def reply_to(self, text: str, shown: Writer) -> Reply | None:
         """Asks a statement; `shown` takes its rows. Gives the reply, or None where there is none and this was told."""
         engine, began = self.keeper.engine, time.monotonic()
         try:
@@ -99,7 +105,7 @@ class Session:
             self.has_refused = True
         return None
 
-    def types_of(self, text):
+    def types_of(self, text: str) -> list[str]:
         """The types of a query's columns, as far as the shell knows them."""
         found = tokens(text) if len(text) < 20000 else []
         words = [it.value for it in found[:1]]
@@ -107,8 +113,9 @@ class Session:
             return self.catalogue.cursors.get(found[-1].value if found[-1].value != ";" else found[-2].value, [])
         return Types(self.catalogue, found).of_output() if words == ["select"] else []
 
-    def interrupted(self, seconds, text):
-        """Ctrl-C came while a statement was asked: reads the rest of its rows where some came, else stops it. A person's engine is begun anew."""
+    def interrupted(self, seconds: float, text: str) -> None:
+        """Ctrl-C came while a statement was asked: reads the rest of its rows where some came, else stops it. A person's engine is begun
+        anew."""
         engine = self.keeper.engine
         try:
             if engine.has_rows:
@@ -123,7 +130,7 @@ class Session:
             for path in filter(os.path.exists, left):
                 self.tell(f"the stopped statement has left {path}: remove it")
 
-    def ended(self, end):
+    def ended(self, end: Ended) -> None:
         """The engine ended by itself while a statement was asked. A person's is begun anew."""
         if not self.is_person:
             raise end
@@ -132,7 +139,7 @@ class Session:
         self.has_refused = True
         self.keeper.begin_anew()
 
-    def note_cursor(self, text, reply):
+    def note_cursor(self, text: str, reply: Reply) -> None:
         """Keeps of a cursor the types of its columns."""
         if reply.tag == "DECLARE CURSOR":
             found = tokens(text)
@@ -143,7 +150,7 @@ class Session:
 
     # What is shown
 
-    def show(self, text):
+    def show(self, text: str) -> None:
         """Writes rows to where rows go."""
         self.output.write(text.encode(errors="replace"))
 
@@ -152,7 +159,7 @@ class Session:
         sys.stdout.buffer.write("".join(f"{printable(it)}\n" for it in lines).encode())
         sys.stdout.buffer.flush()
 
-    def show_answer(self, shown, reply):
+    def show_answer(self, shown: Writer, reply: Reply) -> None:
         if not shown.names:
             if self.settings.format == "aligned":
                 self.show_here(reply.tag)
@@ -169,7 +176,7 @@ class Session:
         finally:
             self.output.flush()
 
-    def open_output(self, name):
+    def open_output(self, name: str) -> None:
         """Sends rows to a file; to standard output where no name is given. Raises OSError."""
         opened = open(name, "wb") if name else sys.stdout.buffer
         if self.output_name:
@@ -182,11 +189,11 @@ class Session:
         sys.stderr.buffer.write("".join(f"{printable(it)}\n" for it in lines).encode())
         sys.stderr.buffer.flush()
 
-    def tell_fault(self, statement, name):
+    def tell_fault(self, statement: Statement, name: str) -> None:
         self.has_refused = True
         self.tell(f"{self.place(statement, name)}ERROR: {statement.fault}")
 
-    def tell_refusal(self, reply, statement, name, shows_text=False):
+    def tell_refusal(self, reply: Reply, statement: Statement, name: str, shows_text: bool = False) -> None:
         """Tells why a statement was refused, and what may help."""
         self.has_refused = True
         lines = [f"{self.place(statement, name)}ERROR {reply.code}: {reply.name.replace('_', ' ')}"]
@@ -199,12 +206,12 @@ class Session:
         finally:
             self.tell(*lines)
 
-    def names_of_columns(self, name):
+    def names_of_columns(self, name: str) -> list[str] | None:
         """The columns of a table that was made elsewhere, by the engine's answer; None where there is no such table."""
         shown = Writer(self.settings, [], drop)
         reply = self.reply_to(f"SELECT * FROM {quoted_name(name)} LIMIT 0", shown) if self.keeper.catch_up() else None
         return shown.names if reply and not reply.code else None
 
-    def place(self, statement, name):
+    def place(self, statement: Statement, name: str) -> str:
         """Where a statement of a file, or of standard input, begins."""
         return f"{name} line {statement.line}: " if name else ""

@@ -1,7 +1,8 @@
 """Statements: how lines are cut into them, and statements into tokens."""
+from __future__ import annotations
+
 import re
 from collections import namedtuple
-from typing import List, Optional
 
 from .. import sql
 
@@ -17,7 +18,7 @@ Statement = namedtuple("Statement", "text line fault")
 Token = namedtuple("Token", "kind value")
 
 
-def fault_of(text, is_broken):
+def fault_of(text: str, is_broken: bool) -> str:
     if is_broken:
         return "a text or name in quotes cannot go over a line end"
     try:
@@ -31,26 +32,26 @@ def fault_of(text, is_broken):
 class Reader:
     """Cuts lines into statements, each up to its semicolon."""
 
-    def __init__(self):
+    def __init__(self) -> None:
         self.drop()
 
-    def drop(self):
+    def drop(self) -> None:
         """Forgets what was read of a statement."""
         self.parts, self.line, self.quote, self.is_broken = [], 0, "", False
 
     @property
-    def is_inside(self):
+    def is_inside(self) -> bool:
         """Whether a statement was begun."""
         return bool(self.quote) or any(it.strip() for it in self.parts)
 
-    def end(self):
+    def end(self) -> list[Statement]:
         """The statement that ends here, alone in a list; none where there is no text."""
         text = "".join(self.parts).strip()
         found = [Statement(text, self.line, fault_of(text, self.is_broken))] if text else []
         self.drop()
         return found
 
-    def take(self, line, number=0):
+    def take(self, line: str, number: int = 0) -> list[Statement]:
         """The statements that end in this line, whose number is told."""
         found, at = [], 0
         if self.quote:
@@ -70,14 +71,14 @@ class Reader:
         self.parts.append(" ")
         return found
 
-    def add(self, piece, number):
+    def add(self, piece: str, number: int) -> None:
         if not self.line and piece.strip():
             self.line = number
         self.parts.append(piece)
         if piece[0] in "'\"" and (len(piece) == 1 or piece[-1] != piece[0]):
             self.quote = piece[0]
 
-    def rest(self):
+    def rest(self) -> list[Statement]:
         """What stands behind the last semicolon, as a list of one statement or none."""
         if self.quote:
             statement = Statement("", self.line, "a quote is not closed")
@@ -87,10 +88,10 @@ class Reader:
 
 
 class ScriptReader(Reader):
-    """Cuts an init file. `fedq run --init` takes one statement a line, without semicolons, and the shell one over several lines: a statement ends at its
-    semicolon, and before a line that begins another one."""
+    """Cuts an init file. `fedq run --init` takes one statement a line, without semicolons, and the shell one over several lines: a
+    statement ends at its semicolon, and before a line that begins another one."""
 
-    def take(self, line, number=0):
+    def take(self, line: str, number: int = 0) -> list[Statement]:
         found = []
         text = "".join(self.parts)
         if not self.quote and self.is_inside:
@@ -99,7 +100,7 @@ class ScriptReader(Reader):
         return found + super().take(line, number)
 
 
-def statements_of(text, reader=None):
+def statements_of(text: str, reader: Reader | None = None) -> list[Statement]:
     """All statements of a text."""
     reader = reader or Reader()
     found = []
@@ -108,7 +109,7 @@ def statements_of(text, reader=None):
     return found + reader.rest()
 
 
-def tokens(text: str) -> List[Token]:
+def tokens(text: str) -> list[Token]:
     """The tokens of a statement, comments left out; none where it is no SQL that can be asked, as where a comment is not closed."""
     try:
         return [Token(it.kind, it.value) for it in sql.tokens(text)]
