@@ -37,7 +37,8 @@ class Hints:
     def __init__(self, home, catalogue, user) -> None:
         self.home, self.catalogue, self.user = home, catalogue, user
         self.by_code = {"42P01": self.unknown_tables, "42703": self.unknown_columns, "42704": self.unknown_objects,
-                        "HV00D": self.valid_options, "HV00J": self.valid_options, "HV00N": self.free_sources, "42601": self.length_of_a_type}
+                        "HV00D": self.valid_options, "HV00J": self.valid_options, "HV00N": self.free_sources,
+                        "42601": self.length_of_a_type}
 
     def sentence(self, code: str) -> str:
         """What docs/ERRORS.md says of a code in short, or nothing."""
