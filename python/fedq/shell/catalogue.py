@@ -44,6 +44,7 @@ class Object:
 
 
 def options_text(options: dict[str, str]) -> str:
+    """Options as a statement has them."""
     quoted = (f"{name} {quoted_text(text)}" for name, text in options.items())
     return f" OPTIONS ({', '.join(quoted)})" if options else ""
 
@@ -67,6 +68,7 @@ class Parser:
         return is_so
 
     def skip_to(self, *words: str) -> None:
+        """Reads up to these words, and past them."""
         while self.at < len(self.tokens) and not self.has(*words):
             self.at += 1
 
@@ -85,20 +87,24 @@ class Parser:
         return None
 
     def wrapper(self, found: Object) -> None:
+        """Reads the rest of a statement on a wrapper."""
         self.skip_to("handler")
         found.of = self.next()
 
     def server(self, found: Object) -> None:
+        """Reads the rest of a statement on a server."""
         self.skip_to("foreign", "data", "wrapper")
         found.of = self.next()
         found.options = self.options()
 
     def mapping(self, found: Object) -> None:
+        """Reads the rest of a statement on a user mapping."""
         self.skip_to("server")
         found.of = self.next()
         found.name, found.options = f"{found.name} on {found.of}", self.options()
 
     def table(self, found: Object) -> None:
+        """Reads the rest of a statement on a foreign table."""
         if self.has("("):
             while self.at < len(self.tokens) and not self.has(")"):
                 found.columns.append(self.column())
@@ -108,6 +114,7 @@ class Parser:
         found.options = self.options()
 
     def column(self) -> Column:
+        """Reads a column as it is declared."""
         name, type_name = self.next(), self.next()
         found = Column(name, type_name, self.options())
         found.is_not_null = self.has("not", "null")
@@ -116,6 +123,7 @@ class Parser:
         return found
 
     def options(self) -> dict[str, str]:
+        """Reads OPTIONS (..), by name; nothing where they do not come next."""
         found = {}
         if self.has("options", "("):
             while self.at < len(self.tokens) and not self.has(")"):
@@ -143,13 +151,16 @@ class Catalogue:
             self.objects.setdefault((found.kind, found.name), found)
 
     def of_kind(self, kind: str) -> list[Object]:
+        """All objects of a kind."""
         return [it for it in self.objects.values() if it.kind == kind]
 
     def get(self, kind: str, name: str) -> Object | None:
+        """The object of this kind and name; None where there is none."""
         return self.objects.get((kind, name))
 
     @property
     def tables(self) -> dict[str, Object]:
+        """The foreign tables by name."""
         return {it.name: it for it in self.of_kind("table")}
 
     def source_of(self, server_name: str) -> tuple[str, str, str]:

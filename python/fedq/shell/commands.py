@@ -76,6 +76,7 @@ class Commands:
     # Each takes its argument.
 
     def help(self, _argument: str) -> None:
+        """Prints the commands."""
         forms = [f"  {f'{name} {argument}':<18}{what}" for name, (argument, what, _) in self.known.items()]
         lines = ["SQL ends with ; and may go over several lines; -- begins a comment. Ctrl-C stops a statement, or drops the line.", *forms,
                  f"NULL is shown as {self.session.settings.null}; in csv it is an empty field, and the empty text \"\"; "
@@ -85,14 +86,17 @@ class Commands:
         self.session.show_here(*lines)
 
     def leave(self, _argument: str) -> None:
+        """Ends the shell."""
         raise Leave
 
     def expand(self, _argument: str) -> None:
+        """Shows rows field by field, or as tables again."""
         settings = self.session.settings
         settings.is_expanded = not settings.is_expanded
         self.acknowledge(f"rows are shown {'field by field' if settings.is_expanded else 'as tables'}")
 
     def set_format(self, argument: str) -> None:
+        """Sets how rows are shown."""
         settings = self.session.settings
         if argument and argument not in FORMATS:
             raise Failed(f"a format is {', '.join(FORMATS)}: {argument}")
@@ -100,18 +104,22 @@ class Commands:
         self.acknowledge(f"the format is {settings.format}")
 
     def set_null(self, argument: str) -> None:
+        """Sets what is shown for NULL in tables."""
         self.session.settings.null = printable(argument.strip("'")) if argument else "\u2205"
         self.acknowledge(f"NULL is shown as '{self.session.settings.null}'")
 
     def switch_pager(self, _argument: str) -> None:
+        """Turns the pager on or off."""
         settings = self.session.settings
         settings.is_paged = not settings.is_paged
         self.acknowledge(f"the pager is {'on' if settings.is_paged else 'off'}")
 
     def redirect(self, argument: str) -> None:
+        """Sends rows to a file, or here again."""
         self.session.open_output(path_of(argument))
 
     def include(self, argument: str) -> bool:
+        """Runs the statements of a file; whether all were done."""
         if not argument:
             raise Failed("\\i needs a file")
         if self.depth == MOST_NESTED:
@@ -147,6 +155,7 @@ class Commands:
         return is_good
 
     def describe(self, argument: str) -> None:
+        """Prints what is known, or one table or server."""
         catalogue = self.session.catalogue
         name = argument[1:-1].replace('""', '"') if argument.startswith('"') else argument.lower()
         lines = list(one(catalogue, name) if name else everything(catalogue))

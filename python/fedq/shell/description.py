@@ -36,6 +36,7 @@ def one(catalogue: Catalogue, name: str) -> Iterator[str]:
 
 
 def of_table(catalogue: Catalogue, table: Object) -> Iterator[str]:
+    """A foreign table's columns, server and options."""
     names = [printable(it.name) for it in table.columns]
     longest = max([*map(len, names), 0])
     yield f"foreign table {table.name}"
@@ -47,12 +48,15 @@ def of_table(catalogue: Catalogue, table: Object) -> Iterator[str]:
 
 
 def mapping(it: Object) -> str:
+    """A user mapping in one line."""
     return f"mapping {it.name}: {it.options.get('mode', 'read')}"
 
 
 def source_of(catalogue: Catalogue, server: str) -> str:
+    """The source of a server."""
     return written_source(*catalogue.source_of(server))
 
 
 def written_source(kind: str, name: str, path: str) -> str:
+    """A source in a few words."""
     return f"source {name} ({kind}{' ' * bool(path)}{path})"

@@ -123,6 +123,7 @@ class Program(Engine):
             pass
 
     def send(self, line: bytes) -> None:
+        """Sends a line; fails with Ended where the other side has ended."""
         try:
             while line:
                 line = line[self.process.stdin.write(line):]
@@ -160,6 +161,7 @@ class Program(Engine):
             pass
 
     def close(self, pipe: object) -> None:
+        """Closes a pipe; a failure is passed over."""
         try:
             pipe.close()
         except OSError:
@@ -175,12 +177,14 @@ class Connection(Engine):
         self.source = self.socket.fileno()
 
     def send(self, line: bytes) -> None:
+        """Sends a line; fails with Ended where the other side has ended."""
         try:
             self.socket.sendall(line)
         except OSError:
             raise Ended(1)
 
     def finish(self) -> int:
+        """Ends the connection, and gives the status 0."""
         return self.stop()
 
     def stop(self) -> int:

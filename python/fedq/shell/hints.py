@@ -62,6 +62,7 @@ class Hints:
         return ["mode is 'read' or 'write'"] if made and made.kind == "mapping" and code == "22P02" else []
 
     def unknown_tables(self, text: str) -> Iterator[str]:
+        """Which tables of a statement are not there."""
         found, tables = tokens(text), self.catalogue.tables
         called = dict(entries(found))
         unknown = [it for it in called.values() if it not in tables]
@@ -79,6 +80,7 @@ class Hints:
         return words if setup_program(self.home) else ""
 
     def unknown_columns(self, text: str) -> Iterator[str]:
+        """Which columns of a statement are not there."""
         found, tables = tokens(text), self.catalogue.tables
         pairs = entries(found)
         columns = {column.name for _, table in pairs if table in tables for column in tables[table].columns}
@@ -97,6 +99,7 @@ class Hints:
             yield from said_of("column", it.value, columns)
 
     def unknown_objects(self, text: str) -> Iterator[str]:
+        """Which wrappers, servers, mappings and types of a statement are not there."""
         made = Parser(text).object()
         if made is None:
             yield from self.lacking_mappings(text)
@@ -111,6 +114,7 @@ class Hints:
             yield f"no type {', '.join(unknown)}; the types are {', '.join(TYPES)}; {NO_TYPES}"
 
     def lacking_mappings(self, text: str) -> Iterator[str]:
+        """Which mappings the user lacks."""
         tables = self.catalogue.tables
         for server in sorted({tables[name].of for _, name in entries(tokens(text)) if name in tables}):
             if not any(self.catalogue.get("mapping", f"{user} on {server}") for user in (self.user, "public")):
@@ -118,10 +122,12 @@ class Hints:
                 yield f"{self.user} has no mapping on {server}: the owner writes {way_out}"
 
     def length_of_a_type(self, text: str) -> Iterator[str]:
+        """The types, where a table's definition could not be read."""
         if re.match(r"\s*create\s+foreign\s+table\b", text, re.I):
             yield f"the types are {', '.join(TYPES)}; {NO_TYPES}"
 
     def valid_options(self, text: str) -> Iterator[str]:
+        """The options that an object of this kind may have."""
         made = Parser(text).object()
         if made is None:
             return
@@ -130,6 +136,7 @@ class Hints:
             yield f"the options of {'a table of ' if made.kind == 'table' else 'a '}{kind}: {OPTIONS[kind]}"
 
     def free_sources(self, text: str) -> Iterator[str]:
+        """Which sources a server may have."""
         made, taken = Parser(text).object(), {it.options.get("source"): it.name for it in self.catalogue.of_kind("server")}
         wrapper = made and self.catalogue.get("wrapper", made.of)
         for kind, name, _ in self.catalogue.sources:
@@ -189,4 +196,5 @@ def said_of(what: str, name: str, names: Iterable[str], where: str = "") -> Iter
 
 
 def written_if_name(name: str) -> str:
+    """A name as SQL has it, where it is no name of a file."""
     return name if re.fullmatch(r"[\w.-]+", name) else quoted_name(name)

@@ -22,12 +22,14 @@ class Interrupts:
             signal.signal(number, self.end)
 
     def interrupt(self, _number: int, _frame: object) -> None:
+        """Takes Ctrl-C."""
         self.is_pending = not self.is_allowed
         if self.is_allowed:
             self.is_allowed = False
             raise KeyboardInterrupt
 
     def end(self, number: int, _frame: object) -> None:
+        """Takes a signal that ends the shell."""
         self.ignore_all()
         sys.exit(128 + number)
 

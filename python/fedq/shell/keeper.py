@@ -37,6 +37,7 @@ class Keeper:
             raise Broken(f"{self.words.user!r} is no name of a user: a-z, 0-9 and _, no digit first")
 
     def new_engine(self) -> Engine:
+        """Starts the program, or connects."""
         if self.words.port:
             return self.connection(self.words.port)
         beside = os.path.join(self.home, "fedq")
@@ -44,6 +45,7 @@ class Keeper:
         return Program([program, "run", *self.words.program_words], self.watcher, self.interrupts)
 
     def connection(self, port: int) -> Connection:
+        """Connects to a port; fails with Broken where nobody serves it."""
         try:
             return Connection(port, self.watcher, self.interrupts)
         except OSError as fault:

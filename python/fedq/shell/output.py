@@ -27,11 +27,13 @@ def width_of(text: str) -> int:
 
 
 def padded(text: str, width: int, is_right: bool) -> str:
+    """A text with spaces up to a width, before or after it."""
     spaces = " " * (width - width_of(text))
     return spaces + text if is_right else text + spaces
 
 
 def counted(count: int) -> str:
+    """How many rows there are, in a line."""
     return f"({count} row{'s' * (count != 1)})\n"
 
 
@@ -122,6 +124,7 @@ class Aligned(Writer):
         self.write(counted(self.count))
 
     def line(self, cells: list[str]) -> str:
+        """A line of a table."""
         parts = [padded(it, width, right) for it, width, right in zip(cells, self.widths, self.is_right)]
         if not self.is_right[-1]:
             parts[-1] = cells[-1]
@@ -171,9 +174,11 @@ class Csv(Writer):
             self.write(text.replace("\t", ",") + "\n")
 
     def row(self, text: str) -> str:
+        """A record of CSV, of the text of a row."""
         return ",".join(map(self.field, text.split("\t"))) + "\n"
 
     def field(self, text: str) -> str:
+        """A field of CSV."""
         if text == NULL:
             return ""
         text = unescaped(text)
@@ -200,12 +205,14 @@ class Json(Writer):
         return found
 
     def text(self, field: str) -> str:
+        """A text of JSON."""
         return encode_basestring(unescaped(field))
 
     def page(self, text: str) -> None:
         self.write("".join(map(self.object, text.split("\n"))))
 
     def object(self, row: str) -> str:
+        """An object of JSON, of the text of a row."""
         members = zip(self.heads, self.values, row.split("\t"))
         return "".join([f"{head}{'null' if it == NULL else value(it)}" for head, value, it in members]) + "}\n"
 

@@ -31,16 +31,19 @@ class Spinner:
         self.is_shown, self.count = False, 0
 
     def tick(self, seconds: float) -> None:
+        """Shows how many seconds were waited."""
         if seconds >= 1:
             self.is_shown, self.count = True, self.count + 1
             self.write(f"\r{SIGNS[self.count % len(SIGNS)]} {seconds:.0f} s, Ctrl-C stops it ")
 
     def clear(self) -> None:
+        """Takes the sign away."""
         if self.is_shown:
             self.is_shown = False
             self.write("\r\x1b[K")
 
     def write(self, text: str) -> None:
+        """Writes text."""
         sys.stderr.write(text)
         sys.stderr.flush()
 
@@ -52,12 +55,14 @@ class Pager:
         self.process = subprocess.Popen(command, shell=True, stdin=subprocess.PIPE, env={"LESS": "FRSX", **os.environ})
 
     def write(self, text: str) -> None:
+        """Writes text."""
         try:
             self.process.stdin.write(text.encode(errors="replace"))
         except OSError:
             pass
 
     def close(self) -> None:
+        """Ends the pager, after it has shown all."""
         try:
             self.process.stdin.close()
         except OSError:

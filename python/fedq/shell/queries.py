@@ -15,6 +15,7 @@ END = Token("mark", "")
 
 
 def is_name(token: Token) -> bool:
+    """Whether a token may be a name."""
     return token.kind in ("word", "quoted")
 
 
@@ -102,6 +103,7 @@ class Types:
         return [TYPES.get(column.type, "") for table in chosen for column in table.columns]
 
     def of_expression(self, found: list[Token]) -> str:
+        """The type of an expression, as far as it is known."""
         outside = {it.value for it, depth in with_depth(found) if depth == 0 and it.kind in ("word", "mark")}
         if outside & CONDITIONS:
             return "boolean"
@@ -114,11 +116,13 @@ class Types:
         return self.of_name(found)
 
     def of_function(self, name: str, argument: list[Token]) -> str:
+        """The type of a function's value."""
         if name in ("count", "sum"):
             return "integer"
         return self.of_expression(argument) if name in ("min", "max") else ""
 
     def of_name(self, found: list[Token]) -> str:
+        """The type of a literal or a column."""
         if len(found) == 1 and not is_name(found[0]):
             return {"number": "integer", "text": "text"}.get(found[0].kind, "")
         if not found or len(found) not in (1, 3):

@@ -160,6 +160,7 @@ class Session:
         sys.stdout.buffer.flush()
 
     def show_answer(self, shown: Writer, reply: Reply) -> None:
+        """Shows an answer's rows, or its tag."""
         if not shown.names:
             if self.settings.format == "aligned":
                 self.show_here(reply.tag)
@@ -190,6 +191,7 @@ class Session:
         sys.stderr.buffer.flush()
 
     def tell_fault(self, statement: Statement, name: str) -> None:
+        """Says why a statement cannot be asked."""
         self.has_refused = True
         self.tell(f"{self.place(statement, name)}ERROR: {statement.fault}")
 

@@ -70,6 +70,7 @@ class Shell:
         return status
 
     def run_session(self) -> int:
+        """Runs the session to its end; the status."""
         try:
             self.session = session = Session(self.home, self.words, self.interrupts, self.is_person)
         except OSError as fault:

@@ -19,6 +19,7 @@ Token = namedtuple("Token", "kind value")
 
 
 def fault_of(text: str, is_broken: bool) -> str:
+    """Why a statement cannot be asked; nothing where it can."""
     if is_broken:
         return "a text or name in quotes cannot go over a line end"
     try:
@@ -72,6 +73,7 @@ class Reader:
         return found
 
     def add(self, piece: str, number: int) -> None:
+        """Takes a piece of a line into the statement."""
         if not self.line and piece.strip():
             self.line = number
         self.parts.append(piece)
@@ -92,6 +94,7 @@ class ScriptReader(Reader):
     statement ends at its semicolon, and before a line that begins another one."""
 
     def take(self, line: str, number: int = 0) -> list[Statement]:
+        """The statements that end in this line, or before it, whose number is given."""
         found = []
         text = "".join(self.parts)
         if not self.quote and self.is_inside:

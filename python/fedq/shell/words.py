@@ -45,12 +45,14 @@ class Words:
 
 
 def port_of(text: str) -> int:
+    """The port that a text names."""
     if not text.isdigit() or not 1 <= int(text) <= 65535:
         raise BadWords(f"a port is 1 to 65535: {text}")
     return int(text)
 
 
 def format_of(text: str) -> str:
+    """The format that a text names."""
     if text not in FORMATS:
         raise BadWords(f"a format is {', '.join(FORMATS)}: {text}")
     return text
