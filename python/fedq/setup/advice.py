@@ -41,10 +41,9 @@ class Report:
         self.warnings.append(self.place(line) + text + ": left out" + (f": {out}" if out else ""))
 
     def lines(self) -> List[str]:
-        """All that is said, as a terminal may show it: the first faults, how many more there are, and the warnings."""
+        """All that is said, a line each, for `say`: the first faults, how many more there are, and the warnings."""
         more = len(self.faults) - MOST_SAID
-        said = self.faults[:MOST_SAID] + ([f"{self.name}: and {more} more"] if more > 0 else []) + self.warnings
-        return [printable(it) for it in said]
+        return self.faults[:MOST_SAID] + ([f"{self.name}: and {more} more"] if more > 0 else []) + self.warnings
 
 
 def say(text: str, stream: Optional[TextIO] = None) -> None:

@@ -2,7 +2,7 @@
 import argparse, gc, os, sys
 from typing import Dict, List, Tuple
 
-from .advice import printable, say
+from .advice import say
 from .check import check
 from .script import MOST_SOURCES, Script, split_source
 
@@ -109,5 +109,5 @@ def start(given: List[str]) -> int:
     except BrokenPipeError:
         os._exit(1)
     except OSError as error:
-        say(f"fedq-setup: {error.strerror}: {printable(str(error.filename))}")
+        say(f"fedq-setup: {error.strerror}: {error.filename}")
         return 1
