@@ -1,4 +1,4 @@
-# make install     puts the program, fedq-shell, fedq-setup, their manual pages, documents and completions below PREFIX (behind DESTDIR)
+# make install     puts the program, fedq-shell, fedq-setup, their Python, manual pages, documents and completions below PREFIX (after DESTDIR)
 # make uninstall   takes them away
 # Nothing is built here: dist/fedq is the program. `./check --program` proves and builds it anew, and dist/rebuild puts it in dist/.
 PREFIX = /usr/local
@@ -7,6 +7,8 @@ INSTALL = install
 to = $(DESTDIR)$(PREFIX)
 bash = $(to)/share/bash-completion/completions
 zsh = $(to)/share/zsh/site-functions
+# The folders of the Python package, as they stand in python/.
+rooms = $(patsubst python/%/,%,$(sort $(dir $(wildcard python/fedq/*.py python/fedq/*/*.py))))
 
 .PHONY: help install uninstall
 
@@ -21,7 +23,8 @@ install:
 	@$(INSTALL) -m 644 completions/fedq.bash '$(bash)/fedq'
 	@ln -sf fedq '$(bash)/fedq-shell' && ln -sf fedq '$(bash)/fedq-setup'
 	@$(INSTALL) -m 644 completions/_fedq '$(zsh)/_fedq'
-	@if [ -d shell ]; then $(INSTALL) -d '$(to)/share/fedq/shell' && $(INSTALL) -m 644 shell/*.py '$(to)/share/fedq/shell'; fi
+	@for room in $(rooms); do $(INSTALL) -d '$(to)/share/fedq/python'/$$room && \
+	    $(INSTALL) -m 644 python/$$room/*.py '$(to)/share/fedq/python'/$$room || exit 1; done
 
 uninstall:
 	@rm -f '$(to)/bin/fedq' '$(to)/bin/fedq-shell' '$(to)/bin/fedq-setup' '$(zsh)/_fedq'

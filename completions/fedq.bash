@@ -17,7 +17,7 @@ _fedq() {
         --csv | --jsonl | --sqlite | --list | --owner | --port | --count | --columns | --null | --members) return ;;
     esac
     case ${COMP_WORDS[0]##*/} in
-        fedq-setup) words='--csv --jsonl --sqlite --out --write --check --columns --header --null --members --help' ;;
+        fedq-setup) words='--csv --jsonl --sqlite --out --write --write-acl --check --columns --header --null --members --help' ;;
         fedq-shell) words='--csv --jsonl --sqlite --list --init --owner --command --file --stop --user --connect --format --expanded --null --output --version --help' ;;
         *)
             case ${COMP_WORDS[1]} in

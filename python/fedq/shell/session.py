@@ -1,27 +1,35 @@
 """One session: its engine, what was made in it, and what its answers look like."""
+from __future__ import annotations
+
 import os, sys, time
 
-from catalogue import Catalogue
-from engine import Ended, Nobody
-from hints import Hints
-from keeper import OWNER, PERSON, WRITES, Broken, Keeper, drop
-from output import Writer, writer
-from person import Spinner, paged
-from queries import Types
-from statements import ScriptReader, statements_of, tokens, written
+from ..names import quoted_name
+from ..terminal import printable
+from .catalogue import Catalogue
+from .engine import Ended, Nobody
+from .hints import Hints
+from .keeper import OWNER, PERSON, WRITES, Broken, Keeper, drop
+from .output import Writer, writer
+from .person import Spinner, paged
+from .queries import Types
+from .statements import ScriptReader, statements_of, tokens
+
+if False:  # (for the types alone)
+    from .engine import Reply
+    from .statements import Statement
 
 
 class Settings:
     """How answers are shown."""
 
-    def __init__(self, words):
-        self.format, self.is_expanded, self.null, self.is_paged = words.format, words.is_expanded, words.null, True
+    def __init__(self, words) -> None:
+        self.format, self.is_expanded, self.null, self.is_paged = words.format, words.is_expanded, printable(words.null), True
 
 
 class Session:
     """Asks statements and shows their answers."""
 
-    def __init__(self, home, words, interrupts, is_person):
+    def __init__(self, home, words, interrupts, is_person) -> None:
         self.home, self.words, self.interrupts, self.is_person = home, words, interrupts, is_person
         self.settings, self.output, self.output_name = Settings(words), sys.stdout.buffer, ""
         self.catalogue = Catalogue(words.sources)
@@ -33,7 +41,7 @@ class Session:
 
     # Statements
 
-    def run_init(self, name):
+    def run_init(self, name: str) -> None:
         """Runs an init file as the owner; raises Broken where it cannot be read or a statement is refused."""
         try:
             with open(name, "rb") as file:
@@ -46,7 +54,7 @@ class Session:
             if not self.run_as_owner(statement, name):
                 raise Broken(f"{name} was not run to its end, and no statement behind it")
 
-    def run_as_owner(self, statement, name):
+    def run_as_owner(self, statement: Statement, name: str) -> bool:
         """Runs one statement of the owner; whether it was done. A refusal is told."""
         if statement.fault:
             self.tell_fault(statement, name)
@@ -58,7 +66,7 @@ class Session:
             self.keeper.note(OWNER, statement.text, reply)
         return not reply.code
 
-    def run(self, statement, name=""):
+    def run(self, statement: Statement, name: str = "") -> bool:
         """Asks a statement and shows its answer; whether it was done. `name` is the file that it stands in."""
         if statement.fault:
             self.tell_fault(statement, name)
@@ -75,10 +83,10 @@ class Session:
             self.note_cursor(statement.text, reply)
             self.show_answer(shown, reply)
             if self.is_person and self.settings.format == "aligned":
-                self.show_here(f"Time: {(time.monotonic() - began) * 1000:.1f} ms\n")
+                self.show_here(f"Time: {(time.monotonic() - began) * 1000:.1f} ms")
         return bool(reply and not reply.code)
 
-    def reply_to(self, text, shown):
+    def reply_to(self, text: str, shown: Writer) -> Reply | None:
         """Asks a statement; `shown` takes its rows. Gives the reply, or None where there is none and this was told."""
         engine, began = self.keeper.engine, time.monotonic()
         try:
@@ -97,7 +105,7 @@ class Session:
             self.has_refused = True
         return None
 
-    def types_of(self, text):
+    def types_of(self, text: str) -> list[str]:
         """The types of a query's columns, as far as the shell knows them."""
         found = tokens(text) if len(text) < 20000 else []
         words = [it.value for it in found[:1]]
@@ -105,8 +113,9 @@ class Session:
             return self.catalogue.cursors.get(found[-1].value if found[-1].value != ";" else found[-2].value, [])
         return Types(self.catalogue, found).of_output() if words == ["select"] else []
 
-    def interrupted(self, seconds, text):
-        """Ctrl-C came while a statement was asked: reads the rest of its rows where some came, else stops it. A person's engine is begun anew."""
+    def interrupted(self, seconds: float, text: str) -> None:
+        """Ctrl-C came while a statement was asked: reads the rest of its rows where some came, else stops it. A person's engine is begun
+        anew."""
         engine = self.keeper.engine
         try:
             if engine.has_rows:
@@ -115,13 +124,13 @@ class Session:
             pass
         if engine.is_busy and self.is_person:
             is_write = bool(WRITES.match(text))
-            self.tell(f"\nstopped after {seconds:.1f} s{'; look whether its rows were written' * is_write}")
+            self.tell("", f"stopped after {seconds:.1f} s{'; look whether its rows were written' * is_write}")
             self.keeper.begin_anew()
             left = [os.path.join(path, ".fedq.tmp") for kind, _, path in self.words.sources if kind in ("csv", "jsonl")] if is_write else []
             for path in filter(os.path.exists, left):
                 self.tell(f"the stopped statement has left {path}: remove it")
 
-    def ended(self, end):
+    def ended(self, end: Ended) -> None:
         """The engine ended by itself while a statement was asked. A person's is begun anew."""
         if not self.is_person:
             raise end
@@ -130,7 +139,7 @@ class Session:
         self.has_refused = True
         self.keeper.begin_anew()
 
-    def note_cursor(self, text, reply):
+    def note_cursor(self, text: str, reply: Reply) -> None:
         """Keeps of a cursor the types of its columns."""
         if reply.tag == "DECLARE CURSOR":
             found = tokens(text)
@@ -141,19 +150,20 @@ class Session:
 
     # What is shown
 
-    def show(self, text):
+    def show(self, text: str) -> None:
         """Writes rows to where rows go."""
         self.output.write(text.encode(errors="replace"))
 
-    def show_here(self, text):
-        """Writes to standard output, wherever rows go."""
-        sys.stdout.buffer.write(text.encode(errors="replace"))
+    def show_here(self, *lines: str) -> None:
+        """Writes lines to standard output, wherever rows go, as a terminal may show them."""
+        sys.stdout.buffer.write("".join(f"{printable(it)}\n" for it in lines).encode())
         sys.stdout.buffer.flush()
 
-    def show_answer(self, shown, reply):
+    def show_answer(self, shown: Writer, reply: Reply) -> None:
+        """Shows an answer's rows, or its tag."""
         if not shown.names:
             if self.settings.format == "aligned":
-                self.show_here(f"{reply.tag}\n")
+                self.show_here(reply.tag)
             return
         is_paged = self.is_person and self.settings.is_paged and not self.output_name
         try:
@@ -167,24 +177,25 @@ class Session:
         finally:
             self.output.flush()
 
-    def open_output(self, name):
+    def open_output(self, name: str) -> None:
         """Sends rows to a file; to standard output where no name is given. Raises OSError."""
         opened = open(name, "wb") if name else sys.stdout.buffer
         if self.output_name:
             self.output.close()
         self.output, self.output_name = opened, name
 
-    def tell(self, text):
-        """Writes to standard error, behind what standard output has so far."""
+    def tell(self, *lines: str) -> None:
+        """Writes lines to standard error, after what standard output has so far, as a terminal may show them."""
         sys.stdout.buffer.flush()
-        sys.stderr.buffer.write(f"{text}\n".encode(errors="replace"))
+        sys.stderr.buffer.write("".join(f"{printable(it)}\n" for it in lines).encode())
         sys.stderr.buffer.flush()
 
-    def tell_fault(self, statement, name):
+    def tell_fault(self, statement: Statement, name: str) -> None:
+        """Says why a statement cannot be asked."""
         self.has_refused = True
         self.tell(f"{self.place(statement, name)}ERROR: {statement.fault}")
 
-    def tell_refusal(self, reply, statement, name, shows_text=False):
+    def tell_refusal(self, reply: Reply, statement: Statement, name: str, shows_text: bool = False) -> None:
         """Tells why a statement was refused, and what may help."""
         self.has_refused = True
         lines = [f"{self.place(statement, name)}ERROR {reply.code}: {reply.name.replace('_', ' ')}"]
@@ -195,14 +206,14 @@ class Session:
             with self.interrupts.allowed():
                 lines += [f"  {it}" for it in self.hints.lines(reply.code, statement.text)]
         finally:
-            self.tell("\n".join(lines))
+            self.tell(*lines)
 
-    def names_of_columns(self, name):
+    def names_of_columns(self, name: str) -> list[str] | None:
         """The columns of a table that was made elsewhere, by the engine's answer; None where there is no such table."""
         shown = Writer(self.settings, [], drop)
-        reply = self.reply_to(f"SELECT * FROM {written(name)} LIMIT 0", shown) if self.keeper.catch_up() else None
+        reply = self.reply_to(f"SELECT * FROM {quoted_name(name)} LIMIT 0", shown) if self.keeper.catch_up() else None
         return shown.names if reply and not reply.code else None
 
-    def place(self, statement, name):
+    def place(self, statement: Statement, name: str) -> str:
         """Where a statement of a file, or of standard input, begins."""
         return f"{name} line {statement.line}: " if name else ""

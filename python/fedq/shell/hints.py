@@ -1,16 +1,27 @@
-"""More about a refusal than its code: the sentence of docs/ERRORS.md, the nearest names, the valid options, and what stands where in a file."""
-import os, re, shutil, subprocess
+"""More about a refusal than its code: the sentence of docs/ERRORS.md, the nearest names, the valid options, and what stands where in a
+file."""
+from __future__ import annotations
 
-from catalogue import TYPES, Parser, nearest
-from engine import APART
-from queries import entries, is_name
-from statements import RESERVED, tokens, written
+import os, re, shutil, subprocess
+from collections.abc import Iterable, Iterator
+
+from ..names import quoted_name
+from ..sql import RESERVED
+from ..terminal import folder_word
+from .catalogue import TYPES, Parser, nearest
+from .engine import APART
+from .queries import entries, is_name
+from .statements import tokens
+
+if False:  # (for the types alone)
+    from .catalogue import Object
 
 MOST_FAULTS, MOST_NAMES = 10, 12  # that are shown
 FILE_NAME = re.compile(r"[A-Za-z0-9_-][A-Za-z0-9_.-]{0,254}")
 # Keywords that are no reserved words.
 KEYWORDS = RESERVED | set("nulls first last row rows unknown cursor insensitive no scroll hold next close count sum min max".split())
-OPTIONS = {"server": "source (required)", "mapping": "mode 'read' or 'write'", "list": "table (required)", "sqlite": "table (required): 'orders' or 'people'",
+OPTIONS = {"server": "source (required)", "mapping": "mode 'read' or 'write'", "list": "table (required)",
+           "sqlite": "table (required): 'orders' or 'people'",
            "csv": "filename (required), header 'true' or 'false', null 'TEXT'", "jsonl": "filename (required); of a column: member 'NAME'"}
 NO_TYPES = "a decimal or a date may be declared as text, and a type has no length"
 SHAPES = (
@@ -23,32 +34,35 @@ SHAPES = (
 class Hints:
     """Hints on the statements of one session."""
 
-    def __init__(self, home, catalogue, user):
+    def __init__(self, home, catalogue, user) -> None:
         self.home, self.catalogue, self.user = home, catalogue, user
-        self.by_code = {"42P01": self.unknown_tables, "42703": self.unknown_columns, "42704": self.unknown_objects, "HV00D": self.valid_options,
-                        "HV00J": self.valid_options, "HV00N": self.free_sources, "42601": self.length_of_a_type}
+        self.by_code = {"42P01": self.unknown_tables, "42703": self.unknown_columns, "42704": self.unknown_objects,
+                        "HV00D": self.valid_options, "HV00J": self.valid_options, "HV00N": self.free_sources,
+                        "42601": self.length_of_a_type}
 
-    def sentence(self, code):
+    def sentence(self, code: str) -> str:
         """What docs/ERRORS.md says of a code in short, or nothing."""
-        for folder in (os.path.join(self.home, "docs"), os.path.join(self.home, "../share/doc/fedq"), os.path.join(self.home, "../share/fedq/docs")):
+        for folder in ("docs", "../share/doc/fedq", "../share/fedq/docs"):
             try:
-                with open(os.path.join(folder, "ERRORS.md"), encoding="utf-8") as file:
+                with open(os.path.join(self.home, folder, "ERRORS.md"), encoding="utf-8") as file:
                     found = re.search(rf"^\| \[{code}\]\([^|]*\|[^|]*\| (.*) \|$", file.read(), re.M)
                     return found[1] if found else ""
             except OSError:
                 continue
         return ""
 
-    def lines(self, code, text):
+    def lines(self, code: str, text: str) -> list[str]:
         """The hints on a statement that was refused by this code."""
         if code in self.by_code:
             return list(self.by_code[code](text))
         made = Parser(text).object()
-        if made and made.kind == "table" and not made.is_drop and made.options and code in ("22P02", "HV00A", "HV00R", "54000", "HV004", "HV000"):
+        is_table = made and made.kind == "table" and not made.is_drop and made.options
+        if is_table and code in ("22P02", "HV00A", "HV00R", "54000", "HV004", "HV000"):
             return list(self.remote_table(made))
         return ["mode is 'read' or 'write'"] if made and made.kind == "mapping" and code == "22P02" else []
 
-    def unknown_tables(self, text):
+    def unknown_tables(self, text: str) -> Iterator[str]:
+        """Which tables of a statement are not there."""
         found, tables = tokens(text), self.catalogue.tables
         called = dict(entries(found))
         unknown = [it for it in called.values() if it not in tables]
@@ -60,12 +74,13 @@ class Hints:
             if not unknown and is_name(it) and found[at + 1] == ("mark", ".") and it.value not in called:
                 yield from said_of("entry of FROM", it.value, called)
 
-    def setup_words(self):
+    def setup_words(self) -> str:
         """The words with which fedq-setup looks at the sources; nothing where there are none, or no fedq-setup."""
-        words = " ".join(f"--{kind} {name}={path}" for kind, name, path in self.catalogue.sources if kind != "list")
+        words = " ".join(f"--{kind} {name}={folder_word(path)}" for kind, name, path in self.catalogue.sources if kind != "list")
         return words if setup_program(self.home) else ""
 
-    def unknown_columns(self, text):
+    def unknown_columns(self, text: str) -> Iterator[str]:
+        """Which columns of a statement are not there."""
         found, tables = tokens(text), self.catalogue.tables
         pairs = entries(found)
         columns = {column.name for _, table in pairs if table in tables for column in tables[table].columns}
@@ -77,13 +92,14 @@ class Hints:
                 continue
             passed.add(it.value)
             if it.value in labels:
-                yield f"only ORDER BY sees {written(it.value)}, which AS names"
+                yield f"only ORDER BY sees {quoted_name(it.value)}, which AS names"
                 continue
             if it.kind == "quoted" and not nearest(it.value, columns):
                 yield f"double quotes make a name; a text stands in single ones: '{it.value}'"
             yield from said_of("column", it.value, columns)
 
-    def unknown_objects(self, text):
+    def unknown_objects(self, text: str) -> Iterator[str]:
+        """Which wrappers, servers, mappings and types of a statement are not there."""
         made = Parser(text).object()
         if made is None:
             yield from self.lacking_mappings(text)
@@ -97,17 +113,21 @@ class Hints:
         if unknown:
             yield f"no type {', '.join(unknown)}; the types are {', '.join(TYPES)}; {NO_TYPES}"
 
-    def lacking_mappings(self, text):
+    def lacking_mappings(self, text: str) -> Iterator[str]:
+        """Which mappings the user lacks."""
         tables = self.catalogue.tables
         for server in sorted({tables[name].of for _, name in entries(tokens(text)) if name in tables}):
             if not any(self.catalogue.get("mapping", f"{user} on {server}") for user in (self.user, "public")):
-                yield f"{self.user} has no mapping on {server}: the owner writes CREATE USER MAPPING FOR {self.user} SERVER {written(server)}"
+                way_out = f"CREATE USER MAPPING FOR {self.user} SERVER {quoted_name(server)}"
+                yield f"{self.user} has no mapping on {server}: the owner writes {way_out}"
 
-    def length_of_a_type(self, text):
+    def length_of_a_type(self, text: str) -> Iterator[str]:
+        """The types, where a table's definition could not be read."""
         if re.match(r"\s*create\s+foreign\s+table\b", text, re.I):
             yield f"the types are {', '.join(TYPES)}; {NO_TYPES}"
 
-    def valid_options(self, text):
+    def valid_options(self, text: str) -> Iterator[str]:
+        """The options that an object of this kind may have."""
         made = Parser(text).object()
         if made is None:
             return
@@ -115,7 +135,8 @@ class Hints:
         if kind in OPTIONS:
             yield f"the options of {'a table of ' if made.kind == 'table' else 'a '}{kind}: {OPTIONS[kind]}"
 
-    def free_sources(self, text):
+    def free_sources(self, text: str) -> Iterator[str]:
+        """Which sources a server may have."""
         made, taken = Parser(text).object(), {it.options.get("source"): it.name for it in self.catalogue.of_kind("server")}
         wrapper = made and self.catalogue.get("wrapper", made.of)
         for kind, name, _ in self.catalogue.sources:
@@ -124,7 +145,7 @@ class Hints:
         if not self.catalogue.sources:
             yield "there is no source: --list, --csv, --jsonl and --sqlite name some"
 
-    def remote_table(self, made):
+    def remote_table(self, made: Object) -> Iterator[str]:
         """What is wrong with the file or table that a foreign table was to stand for."""
         kind, _, path = self.catalogue.source_of(made.of)
         name = made.options.get("table" if kind == "sqlite" else "filename", "")
@@ -143,12 +164,12 @@ class Hints:
         else:
             yield from self.faults_of(kind, path, name, made)
 
-    def faults_of(self, kind, path, name, made):
+    def faults_of(self, kind: str, path: str, name: str, made: Object) -> list[str]:
         """What `fedq-setup --check` says of a file or table, a line a fault; nothing where the script is not there."""
         setup = setup_program(self.home)
         if not setup or path == ":memory:":
             return []
-        command = [setup, "--check", kind, path, name, "--columns", ", ".join(f"{written(it.name)} {it.type}" for it in made.columns)]
+        command = [setup, "--check", kind, path, name, "--columns", ", ".join(f"{quoted_name(it.name)} {it.type}" for it in made.columns)]
         if any(it.options for it in made.columns):
             command += ["--members", ", ".join(it.options.get("member", "") for it in made.columns)]
         for option in ("header", "null"):
@@ -160,13 +181,13 @@ class Hints:
         return done.stdout.decode(errors="replace").splitlines()[:MOST_FAULTS] if done.returncode == 1 else []
 
 
-def setup_program(home):
+def setup_program(home: str) -> str:
     """The path of fedq-setup, or nothing."""
     beside = os.path.join(home, "fedq-setup")
     return beside if os.access(beside, os.X_OK) else shutil.which("fedq-setup") or ""
 
 
-def said_of(what, name, names, where=""):
+def said_of(what: str, name: str, names: Iterable[str], where: str = "") -> Iterator[str]:
     """That this name is not among `names`, and which of them are near; all of a few where none is."""
     near = nearest(name, names)
     shown = ", ".join(map(written_if_name, near or sorted(names)))
@@ -174,5 +195,6 @@ def said_of(what, name, names, where=""):
     yield f"no {what} {name}{where}{f'; nearest: {shown}' if near else few}"
 
 
-def written_if_name(name):
-    return name if re.fullmatch(r"[\w.-]+", name) else written(name)
+def written_if_name(name: str) -> str:
+    """A name as SQL has it, where it is no name of a file."""
+    return name if re.fullmatch(r"[\w.-]+", name) else quoted_name(name)

@@ -1,8 +1,15 @@
 """What a person at a terminal has: lines with history and completion, a sign that something runs, and a pager."""
+from __future__ import annotations
+
 import os, re, shutil, subprocess, sys
+from collections.abc import Iterator
 from contextlib import contextmanager
 
-from words import FORMATS
+from ..terminal import printable
+from .words import FORMATS
+
+if False:  # (for the types alone)
+    from .interrupts import Interrupts
 
 try:
     import readline
@@ -11,29 +18,32 @@ except ImportError:
 
 HISTORY_LENGTH = 2000
 SIGNS = "|/-\\"
-WORDS = ("SELECT DISTINCT FROM WHERE GROUP BY HAVING ORDER LIMIT OFFSET JOIN LEFT INNER CROSS ON AS AND OR NOT IS NULL IN LIKE BETWEEN TRUE FALSE ASC DESC "
-         "INSERT INTO VALUES UPDATE SET DELETE DECLARE CURSOR FOR FETCH CLOSE CREATE DROP FOREIGN DATA WRAPPER HANDLER SERVER USER MAPPING TABLE OPTIONS "
-         "IF EXISTS PUBLIC INTEGER TEXT BOOLEAN COUNT SUM MIN MAX").split()
+WORDS = ("SELECT DISTINCT FROM WHERE GROUP BY HAVING ORDER LIMIT OFFSET JOIN LEFT INNER CROSS ON AS AND OR NOT IS NULL IN LIKE "
+         "BETWEEN TRUE FALSE ASC DESC INSERT INTO VALUES UPDATE SET DELETE DECLARE CURSOR FOR FETCH CLOSE CREATE DROP FOREIGN DATA "
+         "WRAPPER HANDLER SERVER USER MAPPING TABLE OPTIONS IF EXISTS PUBLIC INTEGER TEXT BOOLEAN COUNT SUM MIN MAX").split()
 BEFORE_TABLES = re.compile(r"\b(from|join|into|update|table|table\s+if\s+exists)\s+$|^\s*\\d\s+$", re.I)
 
 
 class Spinner:
     """Shows on standard error how long is waited, from the first second on."""
 
-    def __init__(self):
+    def __init__(self) -> None:
         self.is_shown, self.count = False, 0
 
-    def tick(self, seconds):
+    def tick(self, seconds: float) -> None:
+        """Shows how many seconds were waited."""
         if seconds >= 1:
             self.is_shown, self.count = True, self.count + 1
             self.write(f"\r{SIGNS[self.count % len(SIGNS)]} {seconds:.0f} s, Ctrl-C stops it ")
 
-    def clear(self):
+    def clear(self) -> None:
+        """Takes the sign away."""
         if self.is_shown:
             self.is_shown = False
             self.write("\r\x1b[K")
 
-    def write(self, text):
+    def write(self, text: str) -> None:
+        """Writes text."""
         sys.stderr.write(text)
         sys.stderr.flush()
 
@@ -41,16 +51,18 @@ class Spinner:
 class Pager:
     """A program that shows long texts. What it no longer reads is dropped."""
 
-    def __init__(self, command):
+    def __init__(self, command) -> None:
         self.process = subprocess.Popen(command, shell=True, stdin=subprocess.PIPE, env={"LESS": "FRSX", **os.environ})
 
-    def write(self, text):
+    def write(self, text: str) -> None:
+        """Writes text."""
         try:
             self.process.stdin.write(text.encode(errors="replace"))
         except OSError:
             pass
 
-    def close(self):
+    def close(self) -> None:
+        """Ends the pager, after it has shown all."""
         try:
             self.process.stdin.close()
         except OSError:
@@ -59,7 +71,7 @@ class Pager:
 
 
 @contextmanager
-def paged(height_and_width, interrupts):
+def paged(height_and_width: tuple[int, int], interrupts: Interrupts) -> Iterator[Pager | None]:
     """A Pager where a text of this size does not fit on the terminal, else None."""
     size, command = shutil.get_terminal_size(), os.environ.get("PAGER", "less" if shutil.which("less") else "")
     if not command or not sys.stdout.isatty() or height_and_width[0] < size.lines and height_and_width[1] <= size.columns:
@@ -80,16 +92,16 @@ def paged(height_and_width, interrupts):
 class Completer:
     """Completes what is typed from the objects that a catalogue knows."""
 
-    def __init__(self, catalogue, commands):
+    def __init__(self, catalogue, commands) -> None:
         self.catalogue, self.commands, self.found = catalogue, commands, []
 
-    def complete(self, text, number):
+    def complete(self, text: str, number: int) -> str | None:
         """The number-th way to go on behind `text`, or None: what readline asks for."""
         if number == 0:
             self.found = self.ways(text, readline.get_line_buffer()[:readline.get_begidx()])
         return self.found[number] if number < len(self.found) else None
 
-    def ways(self, text, before):
+    def ways(self, text: str, before: str) -> list[str]:
         """How `text` may go on where `before` stands in the line."""
         if not before.strip() and text.startswith("\\"):
             return [it + " " for it in self.commands if it.startswith(text)]
@@ -99,7 +111,7 @@ class Completer:
             return [it for it in FORMATS if it.startswith(text)]
         return self.names(text, before) + self.keywords(text, before)
 
-    def names(self, text, before):
+    def names(self, text: str, before: str) -> list[str]:
         """The names of objects and columns that begin with `text`."""
         tables = self.catalogue.tables
         if BEFORE_TABLES.search(before):
@@ -112,28 +124,28 @@ class Completer:
             names += [it.name for it in self.catalogue.objects.values() if it.kind != "mapping"]
         return sorted({it for it in names if it.startswith(text) and re.fullmatch(r"[\w$.]+", it)})
 
-    def keywords(self, text, before):
+    def keywords(self, text: str, before: str) -> list[str]:
         """The keywords that begin with `text`, in its case, where one may stand."""
         if not text or BEFORE_TABLES.search(before):
             return []
         return [it for it in (WORDS if text.isupper() else map(str.lower, WORDS)) if it.startswith(text)]
 
 
-def files(text):
-    """Paths that begin with `text`."""
+def files(text: str) -> list[str]:
+    """Paths that begin with `text`; those that a terminal may not show are left out."""
     folder, _, begin = text.rpartition("/")
     try:
         names = sorted(os.listdir(folder + "/" if "/" in text else "."))
     except OSError:
         return []
-    paths = [f"{folder}/{it}" if "/" in text else it for it in names if it.startswith(begin)]
+    paths = [f"{folder}/{it}" if "/" in text else it for it in names if it.startswith(begin) and printable(it) == it]
     return [it + "/" if os.path.isdir(it) else it for it in paths]
 
 
 class Lines:
     """The lines that a person types."""
 
-    def __init__(self, completer):
+    def __init__(self, completer) -> None:
         self.history = os.environ.get("FEDQ_HISTORY") or os.path.expanduser("~/.fedq_history")
         self.has_editing = bool(readline) and sys.stdin.isatty() and sys.stdout.isatty()
         if not self.has_editing:
@@ -148,7 +160,7 @@ class Lines:
             pass
         self.was = readline.get_current_history_length()
 
-    def next(self, prompt):
+    def next(self, prompt: str) -> list[str]:
         """The lines that were typed next: one, or several where they were pasted. Raises EOFError at the end."""
         if self.has_editing:
             return input(prompt).split("\n")
@@ -159,7 +171,7 @@ class Lines:
             raise EOFError
         return [line.rstrip("\r\n")]
 
-    def keep(self):
+    def keep(self) -> None:
         """Writes the history down, for its user alone; a file that cannot be written is passed over."""
         if not self.has_editing:
             return

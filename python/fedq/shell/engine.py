@@ -1,5 +1,9 @@
-"""Who answers: a program that the shell started, or a connection to one that `fedq serve` serves. Both speak the lines of docs/PROTOCOL.md."""
+"""Who answers: a program that the shell started, or a connection to one that `fedq serve` serves. Both speak the lines of
+docs/PROTOCOL.md."""
+from __future__ import annotations
+
 import os, select, signal, socket, subprocess, time
+from collections.abc import Callable, Iterator
 from collections import namedtuple
 
 # A request's end: the tag of its T line, or the code and name of its E line.
@@ -12,7 +16,7 @@ PATIENCE = 10  # seconds in which a program without input has to end
 class Ended(Exception):
     """The other side ended. `status` is the program's, below 0 where a signal ended it."""
 
-    def __init__(self, status):
+    def __init__(self, status) -> None:
         super().__init__(status)
         self.status = status
 
@@ -20,22 +24,23 @@ class Ended(Exception):
 class Nobody:
     """Whom no waiting is shown to."""
 
-    def tick(self, seconds):
+    def tick(self, seconds: float) -> None:
         """So many seconds were waited."""
 
-    def clear(self):
+    def clear(self) -> None:
         """Something came."""
 
 
 class Engine:
-    """Asks one request after the other. Ctrl-C interrupts only the waiting for a reply and what is done with its rows, so nothing that came is lost."""
+    """Asks one request after the other. Ctrl-C interrupts only the waiting for a reply and what is done with its rows, so nothing that
+    came is lost."""
 
-    def __init__(self, watcher, interrupts):
+    def __init__(self, watcher, interrupts) -> None:
         self.watcher, self.interrupts, self.is_busy, self.rest, self.last = watcher, interrupts, False, [], ""
 
-    def ask(self, session, request, take_page):
-        """Sends `request` for a session and reads its reply, in pages: `take_page` takes the H and R lines of each, as one text. Gives the Reply. Where it is
-        left by an exception before, `is_busy` stays: what then comes belongs to this request."""
+    def ask(self, session: int, request: str, take_page: Callable[[str], None]) -> Reply:
+        """Sends `request` for a session and reads its reply, in pages: `take_page` takes the H and R lines of each, as one text. Gives
+        the Reply. Where it is left by an exception before, `is_busy` stays: what then comes belongs to this request."""
         self.is_busy, self.rest, self.last, self.has_rows = True, [], "", False
         self.send(f"{session} {request}\n".encode())
         for page in self.pages(session):
@@ -45,13 +50,13 @@ class Engine:
         self.is_busy = False
         return reply_of(self.last)
 
-    def drain(self, session):
+    def drain(self, session: int) -> None:
         """Reads the reply to its end and drops it."""
         for _ in self.pages(session):
             pass
         self.is_busy = False
 
-    def pages(self, session):
+    def pages(self, session: int) -> Iterator[str]:
         """Texts of whole H and R lines, up to the line that ends the reply, which is then `last`."""
         ends = f"{session} T ", f"{session} E "
         while not self.last:
@@ -69,7 +74,7 @@ class Engine:
                 page, self.last = page[:begin], page[begin:-1]
             yield page
 
-    def more(self):
+    def more(self) -> bytes:
         """The next bytes that come; raises Ended."""
         began = time.monotonic()
         with self.interrupts.allowed():
@@ -85,13 +90,13 @@ class Engine:
         return piece
 
 
-def reply_of(last):
+def reply_of(last: str) -> Reply:
     """The Reply of the line that ends it."""
     _, verb, rest = last.split(" ", 2)
     return Reply(rest, "", "") if verb == "T" else Reply("", *rest.split(" ", 1))
 
 
-def die_with_parent():
+def die_with_parent() -> None:
     """Has Linux end this process when the shell dies without ending it, as by SIGKILL."""
     try:
         import ctypes
@@ -107,7 +112,7 @@ APART = {"start_new_session": True, "preexec_fn": die_with_parent}
 class Program(Engine):
     """`fedq run`, apart from the shell's terminal."""
 
-    def __init__(self, command, watcher, interrupts):
+    def __init__(self, command, watcher, interrupts) -> None:
         super().__init__(watcher, interrupts)
         self.process = subprocess.Popen(command, stdin=subprocess.PIPE, stdout=subprocess.PIPE, bufsize=0, **APART)
         self.source = self.process.stdout.fileno()
@@ -117,14 +122,15 @@ class Program(Engine):
         except (ImportError, OSError):
             pass
 
-    def send(self, line):
+    def send(self, line: bytes) -> None:
+        """Sends a line; fails with Ended where the other side has ended."""
         try:
             while line:
                 line = line[self.process.stdin.write(line):]
         except OSError:
             raise Ended(self.finish())
 
-    def finish(self):
+    def finish(self) -> int:
         """Lets the program end, and gives its status."""
         self.close(self.process.stdin)
         try:
@@ -133,7 +139,7 @@ class Program(Engine):
             pass
         return self.stop()
 
-    def stop(self):
+    def stop(self) -> int:
         """Ends the program and what it started, at once where it has not ended, and gives its status."""
         if self.process.poll() is None:
             self.signal(signal.SIGTERM)
@@ -147,14 +153,15 @@ class Program(Engine):
         self.close(self.process.stdout)
         return self.process.returncode
 
-    def signal(self, number):
+    def signal(self, number: int) -> None:
         """Sends a signal to the program and what it started."""
         try:
             os.killpg(self.process.pid, number)
         except (ProcessLookupError, PermissionError):
             pass
 
-    def close(self, pipe):
+    def close(self, pipe: object) -> None:
+        """Closes a pipe; a failure is passed over."""
         try:
             pipe.close()
         except OSError:
@@ -164,21 +171,23 @@ class Program(Engine):
 class Connection(Engine):
     """A connection to a port of this machine. What is stopped here goes on there until it is done."""
 
-    def __init__(self, port, watcher, interrupts):
+    def __init__(self, port, watcher, interrupts) -> None:
         super().__init__(watcher, interrupts)
         self.socket = socket.create_connection(("127.0.0.1", port))
         self.source = self.socket.fileno()
 
-    def send(self, line):
+    def send(self, line: bytes) -> None:
+        """Sends a line; fails with Ended where the other side has ended."""
         try:
             self.socket.sendall(line)
         except OSError:
             raise Ended(1)
 
-    def finish(self):
+    def finish(self) -> int:
+        """Ends the connection, and gives the status 0."""
         return self.stop()
 
-    def stop(self):
+    def stop(self) -> int:
         """Ends the connection."""
         self.socket.close()
         return 0

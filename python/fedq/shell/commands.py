@@ -1,9 +1,12 @@
 """The commands that begin with a backslash, and the words help, quit and exit."""
+from __future__ import annotations
+
 import os
 
-from description import everything, one
-from statements import Reader
-from words import FORMATS
+from ..terminal import printable
+from .description import everything, one
+from .statements import Reader
+from .words import FORMATS
 
 MOST_NESTED = 16  # files that read one another
 
@@ -16,12 +19,12 @@ class Failed(Exception):
     """A command could not be done; the text says why."""
 
 
-def told_of(fault):
+def told_of(fault: Exception) -> str:
     """A fault's text; of one of the system the file and why."""
     return f"{fault.filename}: {fault.strerror}" if isinstance(fault, OSError) and fault.filename else str(fault)
 
 
-def path_of(argument):
+def path_of(argument: str) -> str:
     """A path as it was typed, in quotes or without."""
     return os.path.expanduser(argument.strip("'\""))
 
@@ -29,7 +32,7 @@ def path_of(argument):
 class Commands:
     """Does what command lines say."""
 
-    def __init__(self, session):
+    def __init__(self, session) -> None:
         self.session, self.depth = session, 0
         self.known = {
             "\\d": ("[NAME]", "the tables, servers, mappings and sources; or one of them", self.describe),
@@ -43,13 +46,14 @@ class Commands:
             "\\q": ("", "leaves; also quit, exit and Ctrl-D", self.leave),
         }
 
-    def is_command(self, line, is_inside, is_typed):
-        """Whether a line is a command. Within a statement the words are so only where a person types them: a file may have a column help."""
+    def is_command(self, line: str, is_inside: bool, is_typed: bool) -> bool:
+        """Whether a line is a command. Within a statement the words are so only where a person types them: a file may have a column
+        help."""
         word = line.strip().rstrip(";").strip()
         is_word = word.lower() in ("help", "quit", "exit")
         return word.startswith("\\") or is_word and (is_typed or not is_inside)
 
-    def obey(self, line):
+    def obey(self, line: str) -> bool:
         """Does what a command line says; whether it could be done. Raises Leave."""
         name, _, argument = line.strip().rstrip(";").strip().partition(" ")
         name = {"help": "\\?", "quit": "\\q", "exit": "\\q", "\\dt": "\\d"}.get(name.lower(), name)
@@ -64,49 +68,58 @@ class Commands:
             self.session.tell(f"ERROR: {told_of(fault)}")
             return False
 
-    def acknowledge(self, text):
-        """Tells a person what is set; a script has only rows on its standard output."""
+    def acknowledge(self, text: str) -> None:
+        """Says to a person what is set; a script has only rows on its standard output."""
         if self.session.is_person:
             self.session.show_here(text)
 
     # Each takes its argument.
 
-    def help(self, _argument):
+    def help(self, _argument: str) -> None:
+        """Prints the commands."""
         forms = [f"  {f'{name} {argument}':<18}{what}" for name, (argument, what, _) in self.known.items()]
         lines = ["SQL ends with ; and may go over several lines; -- begins a comment. Ctrl-C stops a statement, or drops the line.", *forms,
-                 f"NULL is shown as {self.session.settings.null}; in csv it is an empty field, and the empty text \"\"; in json it is null.",
+                 f"NULL is shown as {self.session.settings.null}; in csv it is an empty field, and the empty text \"\"; "
+                 "in json it is null.",
                  "In tables \\\\, \\t, \\n and \\r stand for a backslash, TAB and line ends.",
-                 "docs/LANGUAGE.md has the SQL, docs/SOURCES.md the options, docs/ERRORS.md what each code means.\n"]
-        self.session.show_here("\n".join(lines))
+                 "docs/LANGUAGE.md has the SQL, docs/SOURCES.md the options, docs/ERRORS.md what each code means."]
+        self.session.show_here(*lines)
 
-    def leave(self, _argument):
+    def leave(self, _argument: str) -> None:
+        """Ends the shell."""
         raise Leave
 
-    def expand(self, _argument):
+    def expand(self, _argument: str) -> None:
+        """Shows rows field by field, or as tables again."""
         settings = self.session.settings
         settings.is_expanded = not settings.is_expanded
-        self.acknowledge(f"rows are shown {'field by field' if settings.is_expanded else 'as tables'}\n")
+        self.acknowledge(f"rows are shown {'field by field' if settings.is_expanded else 'as tables'}")
 
-    def set_format(self, argument):
+    def set_format(self, argument: str) -> None:
+        """Sets how rows are shown."""
         settings = self.session.settings
         if argument and argument not in FORMATS:
             raise Failed(f"a format is {', '.join(FORMATS)}: {argument}")
         settings.format = argument or settings.format
-        self.acknowledge(f"the format is {settings.format}\n")
+        self.acknowledge(f"the format is {settings.format}")
 
-    def set_null(self, argument):
-        self.session.settings.null = argument.strip("'") if argument else "\u2205"
-        self.acknowledge(f"NULL is shown as '{self.session.settings.null}'\n")
+    def set_null(self, argument: str) -> None:
+        """Sets what is shown for NULL in tables."""
+        self.session.settings.null = printable(argument.strip("'")) if argument else "\u2205"
+        self.acknowledge(f"NULL is shown as '{self.session.settings.null}'")
 
-    def switch_pager(self, _argument):
+    def switch_pager(self, _argument: str) -> None:
+        """Turns the pager on or off."""
         settings = self.session.settings
         settings.is_paged = not settings.is_paged
-        self.acknowledge(f"the pager is {'on' if settings.is_paged else 'off'}\n")
+        self.acknowledge(f"the pager is {'on' if settings.is_paged else 'off'}")
 
-    def redirect(self, argument):
+    def redirect(self, argument: str) -> None:
+        """Sends rows to a file, or here again."""
         self.session.open_output(path_of(argument))
 
-    def include(self, argument):
+    def include(self, argument: str) -> bool:
+        """Runs the statements of a file; whether all were done."""
         if not argument:
             raise Failed("\\i needs a file")
         if self.depth == MOST_NESTED:
@@ -121,7 +134,7 @@ class Commands:
         finally:
             self.depth -= 1
 
-    def run_lines(self, lines, name):
+    def run_lines(self, lines: list[str], name: str) -> bool:
         """Runs statements and commands of a file or of a word; whether all were done."""
         reader, is_good = Reader(), True
         for number, line in enumerate(lines, 1):
@@ -130,7 +143,7 @@ class Commands:
                 return False
         return all([self.session.run(it, name) for it in reader.rest()]) and is_good
 
-    def take(self, reader, line, number, name):
+    def take(self, reader: Reader, line: str, number: int, name: str) -> bool:
         """Runs what ends in a line; whether all was done."""
         if self.is_command(line, reader.is_inside, self.session.is_person and not name):
             return self.obey(line)
@@ -141,15 +154,16 @@ class Commands:
                 break
         return is_good
 
-    def describe(self, argument):
+    def describe(self, argument: str) -> None:
+        """Prints what is known, or one table or server."""
         catalogue = self.session.catalogue
         name = argument[1:-1].replace('""', '"') if argument.startswith('"') else argument.lower()
         lines = list(one(catalogue, name) if name else everything(catalogue))
         if not name and self.session.words.port:
             lines.append("(of a served engine the shell knows what was made through it alone; \\d NAME asks for a table's columns)")
-        self.session.show_here("".join(f"{it}\n" for it in lines or [self.asked(name)]))
+        self.session.show_here(*(lines or [self.asked(name)]))
 
-    def asked(self, name):
+    def asked(self, name: str) -> str:
         """The columns of a table that the shell has not seen made, by the engine's answer."""
         names = self.session.names_of_columns(name)
         if names is None:

@@ -1,21 +1,24 @@
 """From the words to the end of the shell."""
+from __future__ import annotations
+
 import os, subprocess, sys
 
-from commands import Commands, Leave, told_of
-from engine import APART, Ended
-from hints import setup_program
-from interrupts import Interrupts
-from keeper import Broken
-from person import Completer, Lines
-from session import Session
-from statements import Reader, ScriptReader, statements_of
-from words import USAGE, BadWords, read
+from ..terminal import printable
+from .commands import Commands, Leave, told_of
+from .engine import APART, Ended
+from .hints import setup_program
+from .interrupts import Interrupts
+from .keeper import Broken
+from .person import Completer, Lines
+from .session import Session
+from .statements import Reader, ScriptReader, statements_of
+from .words import USAGE, BadWords, read
 
 PROMPTS = {"": "   -> ", "'": "   '> ", '"': '   "> '}
 REFUSED, INTERRUPTED = 1, 130
 
 
-def main(home, given):
+def main(home: str, given: list[str]) -> int:
     """Runs the shell, and gives its status."""
     try:
         words = read(given)
@@ -30,20 +33,21 @@ def main(home, given):
     return Shell(home, words).run()
 
 
-def fail(text, status):
+def fail(text: object, status: int) -> int:
+    """Prints why the shell ends, and gives this status."""
     sys.stdout.flush()
-    print(f"fedq-shell: {text}", file=sys.stderr)
+    print(f"fedq-shell: {printable(str(text))}", file=sys.stderr)
     return status
 
 
 class Shell:
     """One run of the shell."""
 
-    def __init__(self, home, words):
+    def __init__(self, home, words) -> None:
         self.home, self.words, self.interrupts, self.session, self.lines = home, words, Interrupts(), None, None
         self.is_person = not words.inputs and sys.stdin.isatty()
 
-    def run(self):
+    def run(self) -> int:
         """Begins, runs what is given or typed, and ends; gives the status. Whatever happens, the program that was started is ended."""
         try:
             status = self.run_session()
@@ -52,7 +56,8 @@ class Shell:
         except Broken as fault:
             status = fail(fault, 1)
         except Ended as end:
-            status = end.status if end.status > 0 else fail(f"the program ended by signal {-end.status}" if end.status else "the engine ended", 1)
+            why = f"the program ended by signal {-end.status}" if end.status else "the engine ended"
+            status = end.status if end.status > 0 else fail(why, 1)
         except BrokenPipeError:
             os.dup2(os.open(os.devnull, os.O_WRONLY), 1)
             status = 141
@@ -64,7 +69,8 @@ class Shell:
                 self.session.keeper.stop()
         return status
 
-    def run_session(self):
+    def run_session(self) -> int:
+        """Runs the session to its end; the status."""
         try:
             self.session = session = Session(self.home, self.words, self.interrupts, self.is_person)
         except OSError as fault:
@@ -86,7 +92,7 @@ class Shell:
         status = session.keeper.finish()
         return status if status > 0 else REFUSED if session.has_refused and not self.is_person else 0
 
-    def run_inputs(self, commands):
+    def run_inputs(self, commands: Commands) -> None:
         """Runs what -c and -f name, in their order."""
         for option, text in self.words.inputs:
             try:
@@ -99,7 +105,7 @@ class Shell:
             if not is_good and self.words.stops:
                 return
 
-    def run_standard_input(self, commands):
+    def run_standard_input(self, commands: Commands) -> None:
         """Runs the statements of standard input as they come."""
         reader, number = Reader(), 0
         try:
@@ -115,10 +121,10 @@ class Shell:
         except Leave:
             pass
 
-    def run_person(self, commands):
+    def run_person(self, commands: Commands) -> None:
         """Reads and does what a person types, to the end."""
         self.lines = Lines(Completer(self.session.catalogue, commands.known))
-        self.session.show_here("Type \\? for help.\n")
+        self.session.show_here("Type \\? for help.")
         reader = Reader()
         while True:
             try:
@@ -128,10 +134,10 @@ class Shell:
                     commands.take(reader, line, 0, "")
             except KeyboardInterrupt:
                 self.session.watcher.clear()
-                self.session.show_here("\n")
+                self.session.show_here("")
                 reader.drop()
             except EOFError:
-                self.session.show_here("\n")
+                self.session.show_here("")
                 if reader.is_inside:
                     self.session.tell("the unfinished statement was not run")
                 return
@@ -140,7 +146,7 @@ class Shell:
 
     # Sources without objects
 
-    def set_up(self):
+    def set_up(self) -> None:
         """Where sources are named and no init file, offers a person to let fedq-setup make tables of them."""
         sources = [it for it in self.words.sources if it[0] != "list"]
         setup = setup_program(self.home)
@@ -154,7 +160,7 @@ class Shell:
         if answer in ("", "y", "yes"):
             self.make_tables([setup, *words])
 
-    def make_tables(self, command):
+    def make_tables(self, command: list[str]) -> None:
         """Runs the statements that fedq-setup writes, and tells what it says."""
         with self.interrupts.allowed():
             done = subprocess.run(command, stdin=subprocess.DEVNULL, stdout=subprocess.PIPE, **APART)
@@ -162,4 +168,4 @@ class Shell:
         for statement in statements_of(text, ScriptReader()):
             self.session.run_as_owner(statement, "fedq-setup")
         tables = self.session.catalogue.of_kind("table")
-        self.session.show_here("".join(f"{it}\n" for it in tables) + f"({len(tables)} table{'s' * (len(tables) != 1)})\n")
+        self.session.show_here(*map(str, tables), f"({len(tables)} table{'s' * (len(tables) != 1)})")

@@ -1,13 +1,17 @@
 """How rows are shown: as aligned tables, one field a line, CSV, or JSON objects, one a line."""
+from __future__ import annotations
+
 import re, unicodedata
+from collections.abc import Callable
 from json.encoder import encode_basestring
 
-NULL = "\\N"
+from ..lines import NULL, unescaped
+from ..terminal import printable, printable_rows
+
+if False:  # (for the types alone)
+    from .session import Settings
+
 START = "1 R\t"  # before the fields of a row, as `1 H` before names
-CONTROLS = re.compile("[\x00-\x08\x0b-\x1f\x7f-\x9f]")
-CONTROL_BYTES = bytes(it for it in [*range(32), 127] if it not in b"\t\n")
-ESCAPE = re.compile(r"\\(.)")
-MEANT = {"\\": "\\", "t": "\t", "n": "\n", "r": "\r"}
 IS_NUMBER = re.compile(r"-?[0-9]+|\\N").fullmatch
 NEEDS_QUOTES = re.compile('[",\r\n]')
 # Where none of these is in a page, and no empty field at its ends, a TAB is a comma of CSV.
@@ -15,41 +19,32 @@ BEYOND_COMMAS = '"', ",", "\\", "\t\t", "\t\n", "\n\t", "\n\n"
 MOST_KEPT = 1000000  # fields of a table that are kept as they are shown; of more the text is, and is parted once more in the end
 
 
-def unescaped(text):
-    return ESCAPE.sub(lambda it: MEANT.get(it[1], it[0]), text) if "\\" in text else text
-
-
-def without_controls(text):
-    """A text with ? for control characters, TAB and LF left out: nothing is to reach the terminal as a command."""
-    if text.isascii() and len(text) == len(text.encode().translate(None, CONTROL_BYTES)):
-        return text
-    return CONTROLS.sub("?", text)
-
-
-def width_of(text):
+def width_of(text: str) -> int:
     """The columns that a text takes on a terminal."""
     if text.isascii():
         return len(text)
     return sum(0 if unicodedata.category(it) in ("Mn", "Me", "Cf") else 2 if unicodedata.east_asian_width(it) in "WF" else 1 for it in text)
 
 
-def padded(text, width, is_right):
+def padded(text: str, width: int, is_right: bool) -> str:
+    """A text with spaces up to a width, before or after it."""
     spaces = " " * (width - width_of(text))
     return spaces + text if is_right else text + spaces
 
 
-def counted(count):
+def counted(count: int) -> str:
+    """How many rows there are, in a line."""
     return f"({count} row{'s' * (count != 1)})\n"
 
 
 class Writer:
-    """Takes one answer. `header` and `page` come while the reply is read, `end` when it was; `write` takes the text to show. A page is the text of its rows:
-    LF stands between rows and TAB between fields."""
+    """Takes one answer. `header` and `page` come while the reply is read, `end` when it was; `write` takes the text to show. A page is
+    the text of its rows: LF stands between rows and TAB between fields."""
 
-    def __init__(self, settings, types, write):
+    def __init__(self, settings, types, write) -> None:
         self.settings, self.types, self.write, self.names, self.count = settings, types, write, [], 0
 
-    def take(self, text):
+    def take(self, text: str) -> None:
         """Takes whole lines of a reply: the first of all has the names of the output."""
         if not self.names:
             head, _, text = text.partition("\n")
@@ -61,22 +56,22 @@ class Writer:
             self.count += text.count("\n")
             self.page(text[len(START):-1].replace("\n" + START, "\n"))
 
-    def header(self):
+    def header(self) -> None:
         """The names are there."""
 
-    def page(self, text):
+    def page(self, text: str) -> None:
         """These rows are there."""
 
-    def end(self):
+    def end(self) -> None:
         """All rows are there."""
 
-    def height_and_width(self):
+    def height_and_width(self) -> tuple[int, int]:
         """Lines and columns of what `end` writes."""
         return 0, 0
 
-    def cells(self, text):
+    def cells(self, text: str) -> list[str]:
         """All fields of a page, one row after the other, as a table shows them."""
-        cells = without_controls(text).replace("\n", "\t").split("\t")
+        cells = printable_rows(text).replace("\n", "\t").split("\t")
         if NULL in text:
             null = self.settings.null
             cells = [null if it == NULL else it for it in cells]
@@ -86,12 +81,12 @@ class Writer:
 class Aligned(Writer):
     """A table. Its pages are kept until all are there, since the widest field of a column says how wide it is."""
 
-    def header(self):
-        self.names = list(map(without_controls, self.names))
+    def header(self) -> None:
+        self.names = list(map(printable, self.names))
         self.pages, self.widths = [], list(map(width_of, self.names))
         self.is_right, self.has_values = [it in ("", "integer") for it in self.types], [False] * len(self.names)
 
-    def page(self, text):
+    def page(self, text: str) -> None:
         cells, count, is_plain = self.cells(text), len(self.names), self.is_plain(text)
         self.pages.append((is_plain, cells if self.count * count <= MOST_KEPT else text))
         width = len if is_plain else width_of
@@ -100,11 +95,11 @@ class Aligned(Writer):
         if any(right and not known for right, known in zip(self.is_right, self.types)):
             self.look_for_texts(text.replace("\n", "\t").split("\t"))
 
-    def is_plain(self, text):
+    def is_plain(self, text: str) -> bool:
         """Whether each character of a page, and of what stands for NULL, takes one column."""
         return text.isascii() and (NULL not in text or width_of(self.settings.null) == len(self.settings.null))
 
-    def look_for_texts(self, fields):
+    def look_for_texts(self, fields: list[str]) -> None:
         """Of columns whose type is not known: one with a field that is no number stands to the left, and one that has NULL alone."""
         count = len(self.names)
         for at, known in enumerate(self.types):
@@ -113,11 +108,12 @@ class Aligned(Writer):
                 self.is_right[at] = all(map(IS_NUMBER, column))
                 self.has_values[at] = self.has_values[at] or column.count(NULL) < len(column)
 
-    def end(self):
+    def end(self) -> None:
         self.is_right = [right and (known == "integer" or some) for right, known, some in zip(self.is_right, self.types, self.has_values)]
         self.write(self.line(self.names) + "+".join("-" * (it + 2) for it in self.widths) + "\n")
         last, count = len(self.names) - 1, len(self.names)
-        forms = [f"%{it}s" if right else f"%-{it}s" if at < last else "%s" for at, (it, right) in enumerate(zip(self.widths, self.is_right))]
+        forms = [f"%{it}s" if right else f"%-{it}s" if at < last else "%s"
+                 for at, (it, right) in enumerate(zip(self.widths, self.is_right))]
         form = " " + " | ".join(forms) + "\n"
         for is_plain, page in self.pages:
             cells = self.cells(page) if isinstance(page, str) else page
@@ -127,29 +123,30 @@ class Aligned(Writer):
                 self.write("".join(self.line(cells[at:at + count]) for at in range(0, len(cells), count)))
         self.write(counted(self.count))
 
-    def line(self, cells):
+    def line(self, cells: list[str]) -> str:
+        """A line of a table."""
         parts = [padded(it, width, right) for it, width, right in zip(cells, self.widths, self.is_right)]
         if not self.is_right[-1]:
             parts[-1] = cells[-1]
         return " " + " | ".join(parts) + "\n"
 
-    def height_and_width(self):
+    def height_and_width(self) -> tuple[int, int]:
         return self.count + 3, sum(self.widths) + 3 * len(self.widths)
 
 
 class Expanded(Writer):
     """One line for each field. The pages are kept, so that the pager is told how many lines there are."""
 
-    def header(self):
-        self.names = list(map(without_controls, self.names))
+    def header(self) -> None:
+        self.names = list(map(printable, self.names))
         self.pages, wide = [], max(map(width_of, self.names))
         self.heads = [f"{padded(it, wide, False)} | " for it in self.names]
         self.wide = wide + 3
 
-    def page(self, text):
+    def page(self, text: str) -> None:
         self.pages.append(text)
 
-    def end(self):
+    def end(self) -> None:
         number = 0
         for text in self.pages:
             lines = []
@@ -160,26 +157,28 @@ class Expanded(Writer):
             self.write("\n".join(lines) + "\n")
         self.write(counted(self.count))
 
-    def height_and_width(self):
+    def height_and_width(self) -> tuple[int, int]:
         return self.count * (len(self.names) + 1) + 1, 0
 
 
 class Csv(Writer):
     """CSV as `psql --csv` writes it: NULL is an empty field, the empty text stands in quotes."""
 
-    def header(self):
+    def header(self) -> None:
         self.write(self.row("\t".join(self.names)))
 
-    def page(self, text):
+    def page(self, text: str) -> None:
         if any(it in text for it in BEYOND_COMMAS) or text[:1] in "\t\n" or text[-1] in "\t\n":
             self.write("".join(map(self.row, text.split("\n"))))
         else:
             self.write(text.replace("\t", ",") + "\n")
 
-    def row(self, text):
+    def row(self, text: str) -> str:
+        """A record of CSV, of the text of a row."""
         return ",".join(map(self.field, text.split("\t"))) + "\n"
 
-    def field(self, text):
+    def field(self, text: str) -> str:
+        """A field of CSV."""
         if text == NULL:
             return ""
         text = unescaped(text)
@@ -189,12 +188,12 @@ class Csv(Writer):
 class Json(Writer):
     """JSON lines: an object a row. Whole numbers and booleans are so where the shell knows the column's type, and else texts."""
 
-    def header(self):
+    def header(self) -> None:
         values = {"integer": str, "boolean": {"t": "true", "f": "false"}.get}
         self.values = [values.get(it, self.text) for it in self.types]
         self.heads = [f"{', ' if at else '{'}{encode_basestring(it)}: " for at, it in enumerate(self.own_names())]
 
-    def own_names(self):
+    def own_names(self) -> list[str]:
         """The names of the output; of one that stands again the second is name_2."""
         found = []
         for name in map(unescaped, self.names):
@@ -205,17 +204,20 @@ class Json(Writer):
             found.append(own)
         return found
 
-    def text(self, field):
+    def text(self, field: str) -> str:
+        """A text of JSON."""
         return encode_basestring(unescaped(field))
 
-    def page(self, text):
+    def page(self, text: str) -> None:
         self.write("".join(map(self.object, text.split("\n"))))
 
-    def object(self, row):
-        return "".join([f"{head}{'null' if it == NULL else value(it)}" for head, value, it in zip(self.heads, self.values, row.split("\t"))]) + "}\n"
+    def object(self, row: str) -> str:
+        """An object of JSON, of the text of a row."""
+        members = zip(self.heads, self.values, row.split("\t"))
+        return "".join([f"{head}{'null' if it == NULL else value(it)}" for head, value, it in members]) + "}\n"
 
 
-def writer(settings, types, write):
+def writer(settings: Settings, types: list[str], write: Callable[[str], None]) -> Writer:
     """What shows an answer by these settings; `types` are those of its columns, as far as they are known."""
     if settings.format == "aligned":
         return (Expanded if settings.is_expanded else Aligned)(settings, types, write)

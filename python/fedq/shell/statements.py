@@ -1,27 +1,25 @@
 """Statements: how lines are cut into them, and statements into tokens."""
+from __future__ import annotations
+
 import re
 from collections import namedtuple
 
+from .. import sql
+
 LONGEST = 1_048_500  # of a statement, in bytes: a request line has 1,048,576
 PIECE = re.compile(r"""'[^']*'?|"[^"]*"?|--.*|;|[^'";-]+|-""", re.S)
-TOKEN = re.compile(r"""\s*(?:--.*|(?P<word>[A-Za-z_][A-Za-z0-9_$]*)|(?P<quoted>"(?:[^"]|"")*")|(?P<text>'(?:[^']|'')*')|(?P<number>[0-9]+)"""
-                   r"""|(?P<mark><>|<=|>=|!=|\S))""")
 # Words that begin a statement, and stand nowhere else in one.
 BEGINS = re.compile(r"\s*(create|drop|insert|update|delete|declare|fetch)\b", re.I)
 BEFORE_SELECT = re.compile(r"\s*(insert|declare)\b(?!.*\bselect\b)", re.I | re.S)
 
-RESERVED = frozenset(
-    "all and as asc between by case create cross current_user declare delete desc distinct drop else end except false fetch for foreign from full group "
-    "having in inner insert intersect into is join left like limit natural not null offset on or order outer right select set then true union update user "
-    "using values when where with".split())
-
 # A statement's text, the line in which it begins, and what is wrong with it before it is asked (or nothing).
 Statement = namedtuple("Statement", "text line fault")
-# Its kind is `word` (its value in lower case), `quoted`, `text` (their values without quotes), `number` or `mark`.
+# Its kind is `word` (its value in lower case), `quoted`, `text` (their values without quotes), `number`, `parameter` or `mark`.
 Token = namedtuple("Token", "kind value")
 
 
-def fault_of(text, is_broken):
+def fault_of(text: str, is_broken: bool) -> str:
+    """Why a statement cannot be asked; nothing where it can."""
     if is_broken:
         return "a text or name in quotes cannot go over a line end"
     try:
@@ -35,26 +33,26 @@ def fault_of(text, is_broken):
 class Reader:
     """Cuts lines into statements, each up to its semicolon."""
 
-    def __init__(self):
+    def __init__(self) -> None:
         self.drop()
 
-    def drop(self):
+    def drop(self) -> None:
         """Forgets what was read of a statement."""
         self.parts, self.line, self.quote, self.is_broken = [], 0, "", False
 
     @property
-    def is_inside(self):
+    def is_inside(self) -> bool:
         """Whether a statement was begun."""
         return bool(self.quote) or any(it.strip() for it in self.parts)
 
-    def end(self):
+    def end(self) -> list[Statement]:
         """The statement that ends here, alone in a list; none where there is no text."""
         text = "".join(self.parts).strip()
         found = [Statement(text, self.line, fault_of(text, self.is_broken))] if text else []
         self.drop()
         return found
 
-    def take(self, line, number=0):
+    def take(self, line: str, number: int = 0) -> list[Statement]:
         """The statements that end in this line, whose number is told."""
         found, at = [], 0
         if self.quote:
@@ -74,14 +72,15 @@ class Reader:
         self.parts.append(" ")
         return found
 
-    def add(self, piece, number):
+    def add(self, piece: str, number: int) -> None:
+        """Takes a piece of a line into the statement."""
         if not self.line and piece.strip():
             self.line = number
         self.parts.append(piece)
         if piece[0] in "'\"" and (len(piece) == 1 or piece[-1] != piece[0]):
             self.quote = piece[0]
 
-    def rest(self):
+    def rest(self) -> list[Statement]:
         """What stands behind the last semicolon, as a list of one statement or none."""
         if self.quote:
             statement = Statement("", self.line, "a quote is not closed")
@@ -91,10 +90,11 @@ class Reader:
 
 
 class ScriptReader(Reader):
-    """Cuts an init file. `fedq run --init` takes one statement a line, without semicolons, and the shell one over several lines: a statement ends at its
-    semicolon, and before a line that begins another one."""
+    """Cuts an init file. `fedq run --init` takes one statement a line, without semicolons, and the shell one over several lines: a
+    statement ends at its semicolon, and before a line that begins another one."""
 
-    def take(self, line, number=0):
+    def take(self, line: str, number: int = 0) -> list[Statement]:
+        """The statements that end in this line, or before it, whose number is given."""
         found = []
         text = "".join(self.parts)
         if not self.quote and self.is_inside:
@@ -103,7 +103,7 @@ class ScriptReader(Reader):
         return found + super().take(line, number)
 
 
-def statements_of(text, reader=None):
+def statements_of(text: str, reader: Reader | None = None) -> list[Statement]:
     """All statements of a text."""
     reader = reader or Reader()
     found = []
@@ -112,20 +112,9 @@ def statements_of(text, reader=None):
     return found + reader.rest()
 
 
-def tokens(text):
-    """The tokens of a statement, comments left out."""
-    found = []
-    for it in TOKEN.finditer(text):
-        kind, value = it.lastgroup, it.group(it.lastgroup) if it.lastgroup else ""
-        if kind == "word":
-            value = value.lower()
-        elif kind in ("quoted", "text"):
-            value = value[1:-1].replace(value[0] * 2, value[0])
-        if kind:
-            found.append(Token(kind, value))
-    return found
-
-
-def written(name):
-    """A name as it stands in a statement: quoted where it must be."""
-    return name if re.fullmatch(r"[a-z_][a-z0-9_$]*", name) and name not in RESERVED else '"' + name.replace('"', '""') + '"'
+def tokens(text: str) -> list[Token]:
+    """The tokens of a statement, comments left out; none where it is no SQL that can be asked, as where a comment is not closed."""
+    try:
+        return [Token(it.kind, it.value) for it in sql.tokens(text)]
+    except sql.Unsayable:
+        return []

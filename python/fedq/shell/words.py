@@ -1,5 +1,8 @@
 """The words with which the shell was started: its own, and those that go to `fedq run`."""
+from __future__ import annotations
+
 import os
+from collections.abc import Iterator
 
 FORMATS = ("aligned", "csv", "json")
 # The options of `fedq run` that add a source.
@@ -37,17 +40,19 @@ class Words:
     owner, user, output, port, format, null = "admin", "", "", 0, "aligned", "\u2205"
     is_expanded = stops = asks_help = asks_version = False
 
-    def __init__(self):
+    def __init__(self) -> None:
         self.program_words, self.sources, self.inits, self.inputs = [], [], [], []
 
 
-def port_of(text):
+def port_of(text: str) -> int:
+    """The port that a text names."""
     if not text.isdigit() or not 1 <= int(text) <= 65535:
         raise BadWords(f"a port is 1 to 65535: {text}")
     return int(text)
 
 
-def format_of(text):
+def format_of(text: str) -> str:
+    """The format that a text names."""
     if text not in FORMATS:
         raise BadWords(f"a format is {', '.join(FORMATS)}: {text}")
     return text
@@ -56,13 +61,13 @@ def format_of(text):
 # The shell's own options with a value: the member that takes it, and what reads it.
 WITH_VALUE = {"--user": ("user", str), "--connect": ("port", port_of), "--format": ("format", format_of), "--null": ("null", str),
               "-o": ("output", str), "--output": ("output", str)}
-FLAGS = {"-h": "asks_help", "--help": "asks_help", "-V": "asks_version", "--version": "asks_version", "-x": "is_expanded", "--expanded": "is_expanded",
-         "--stop": "stops"}
+FLAGS = {"-h": "asks_help", "--help": "asks_help", "-V": "asks_version", "--version": "asks_version", "-x": "is_expanded",
+         "--expanded": "is_expanded", "--stop": "stops"}
 INPUTS = {"-c": "-c", "--command": "-c", "-f": "-f", "--file": "-f"}
 TAKES_VALUE = {*WITH_VALUE, *INPUTS, *SOURCES, "--init", "--owner"}
 
 
-def options(given):
+def options(given: list[str]) -> Iterator[tuple[str, str | None]]:
     """Each option with its value, None where it has none; `--option=value` is parted."""
     words = iter(given)
     for word in words:
@@ -75,7 +80,7 @@ def options(given):
             yield word, None
 
 
-def take(words, option, value):
+def take(words: Words, option: str, value: str | None) -> None:
     """Takes one option into `words`."""
     if option in TAKES_VALUE and value is None:
         raise BadWords(f"{option} needs a value")
@@ -94,7 +99,7 @@ def take(words, option, value):
         for_program(words, option, value)
 
 
-def for_program(words, option, value):
+def for_program(words: Words, option: str, value: str | None) -> None:
     """Takes an option of `fedq run`, or one that nobody knows, of which the program is to say so."""
     words.program_words += [option] if value is None else [option, value]
     if option == "--owner":
@@ -104,7 +109,7 @@ def for_program(words, option, value):
         words.sources.append((SOURCES[option], name, path))
 
 
-def read(given):
+def read(given: list[str]) -> Words:
     """What these words say; raises BadWords."""
     words = Words()
     for option, value in options(given):
