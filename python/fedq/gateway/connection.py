@@ -149,7 +149,7 @@ class Connection(asyncio.Protocol):
             if not await self.start():
                 return
             while True:
-                kind, body = await self.next()
+                kind, body = self.inbox.popleft() if self.inbox else await self.next()
                 if kind == 88:  # X
                     break
                 await self.take(kind, body)
@@ -200,7 +200,7 @@ class Connection(asyncio.Protocol):
         if not found:
             outlet.add(EMPTY_QUERY)
         for it in found:
-            await session.run(it, Output(outlet, None, (), False))
+            await session.run(it, Output(outlet, session.sid, (), False))
             if outlet.is_behind and len(found) > 1:
                 outlet.flush()
                 await outlet.drained()

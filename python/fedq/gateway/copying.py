@@ -5,7 +5,7 @@ from .. import sql
 from ..sql import Token
 from .messages import COPY_DONE, Refused, complete, copy_out, message
 from .output import FULL, names_in
-from .rows import copy_rows, csv_field, csv_rows
+from .rows import copy_rows, csv_field, csv_rows, slices
 from .sentences import refusal
 
 if TYPE_CHECKING:
@@ -74,10 +74,11 @@ class CopyOutput:
     def take(self, header: bytes, rows: bytes) -> None:
         if not self.width:
             self.begin(header)
-        made, count = csv_rows(rows, self.width) if self.copy.is_csv else copy_rows(rows, self.prefix)
-        self.count += count
-        if not self.is_cut:
-            self.is_cut = not self.outlet.stream(made)
+        for piece in slices(rows):
+            if not self.is_cut:
+                made, count = csv_rows(piece, self.width) if self.copy.is_csv else copy_rows(piece, self.prefix)
+                self.count += count
+                self.is_cut = not self.outlet.stream(made)
 
 
 async def copy_out_of(session: "Session", found: Sequence[Token]) -> None:

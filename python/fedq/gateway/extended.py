@@ -1,9 +1,11 @@
 """The extended protocol: prepared statements, and portals that give their rows some at a time."""
+from functools import lru_cache
 from typing import Dict, List, Optional, Sequence, Tuple
 
 from .. import sql
 from ..sql import Token
-from .messages import BIND_COMPLETE, CLOSE_COMPLETE, EMPTY_QUERY, NO_DATA, PARSE_COMPLETE, SUSPENDED, Body, Refused, complete, parameter_description, row_description
+from .messages import (BIND_COMPLETE, CLOSE_COMPLETE, EMPTY_QUERY, NO_DATA, PARSE_COMPLETE, SUSPENDED, Body, Refused, complete, parameter_description, read_bind,
+                       row_description)
 from .output import Held, Output, all_formats, names_in
 from .parameters import infer, is_known, literal, places, samples
 from .rows import TEXT
@@ -13,6 +15,11 @@ from .statements import CATALOGUE, ENGINE, Form, Statement, Statements
 from .transactions import IDLE
 
 MOST_PARAMETERS, MOST_KEPT = 1000, 5000
+
+
+@lru_cache(4096)
+def described_by(names: Tuple[str, ...], oids: Tuple[int, ...], formats: Tuple[int, ...]) -> bytes:
+    return row_description(names, oids, formats)
 
 
 class Prepared:
@@ -121,27 +128,19 @@ class Extended(Session):
         self.outlet.add(PARSE_COMPLETE)
 
     async def bind(self, body: bytes) -> None:
-        reader = Body(body)
-        name, prepared = reader.text(), self.statement_of(reader.text())
-        formats, values = reader.formats(), []
-        count = reader.number("!H")
-        if len(formats) not in (0, 1, count):
-            raise Refused("08P01", f"bind message has {len(formats)} parameter formats but {count} parameters")
-        if count != prepared.count:
-            raise Refused("08P01", f"bind message supplies {count} parameters, but the prepared statement requires {prepared.count}")
-        for number in range(count):
-            size = reader.number("!i")
-            form = formats[number] if len(formats) > 1 else formats[0] if formats else 0
-            values.append((None if size == -1 else reader.bytes(size), form))
-        wanted = reader.formats()
-        if any(value is not None and not is_known(oid) for (value, _), oid in zip(values, prepared.oids)):
+        found = read_bind(body)
+        name, prepared, values = found.portal, self.statement_of(found.statement), found.values
+        if len(values) != prepared.count:
+            raise Refused("08P01", f"bind message supplies {len(values)} parameters, but the prepared statement requires {prepared.count}")
+        if values and not prepared.is_typed and any(value is not None and not is_known(oid) for (value, _), oid in zip(values, prepared.oids)):
             await self.infer(prepared)
-        if name and name in self.portals:
-            raise Refused("42P03", f'portal "{name}" already exists', "close it first")
-        self.close_portal(name)
+        if name in self.portals:
+            if name:
+                raise Refused("42P03", f'portal "{name}" already exists', "close it first")
+            self.close_portal(name)
         if len(self.portals) > MOST_KEPT:
             raise Refused("54000", f"a session keeps at most {MOST_KEPT:,} portals", "close those that are done")
-        self.portals[name] = Portal(prepared.bound(prepared.literals(values)), wanted)
+        self.portals[name] = Portal(prepared.bound(prepared.literals(values)), found.wanted)
         self.outlet.add(BIND_COMPLETE)
 
     def statement_of(self, name: str) -> Prepared:
@@ -206,7 +205,7 @@ class Extended(Session):
                 raise refusal(reply.code, reply.name)
             names = names_in(reply.header or b"")
             return row_description(names, [TEXT] * len(names), all_formats(formats, len(names)))
-        return row_description(form.names, form.types, all_formats(formats, len(form.types)))
+        return described_by(form.names, form.types, all_formats(formats, len(form.types)))
 
     # Execute
 
@@ -225,7 +224,7 @@ class Extended(Session):
         gives_rows = statement.kind in (ENGINE, CATALOGUE) and statement.verb in ("select", "fetch", "with") or statement.verb == "show"
         if portal.held is None and not (most and gives_rows):
             portal.is_run = True
-            await self.run(statement, Output(self.outlet, None, portal.formats, True))
+            await self.run(statement, Output(self.outlet, self.sid, portal.formats, True))
             return
         if portal.held is None:
             await self.hold(portal)
@@ -233,7 +232,7 @@ class Extended(Session):
 
     async def hold(self, portal: Portal) -> None:
         """Runs a portal's statement, and keeps its rows."""
-        held = Held(self.hub.pool, None, portal.formats)
+        held = Held(self.hub.pool, self.sid, portal.formats)
         portal.is_run = True
         try:
             await self.run(portal.statement, held)

@@ -1,6 +1,6 @@
 """The messages of PostgreSQL's protocol 3.0: how those of the server are made, and how the client's bytes are cut into messages."""
 import struct
-from typing import Deque, List, Optional, Sequence, Tuple
+from typing import Deque, List, NamedTuple, Optional, Sequence, Tuple
 
 SSL_REQUEST, GSS_REQUEST, CANCEL_REQUEST, VERSION_3 = 80877103, 80877104, 80877102, 196608
 START_BYTES, MESSAGE_BYTES = 10_000, 1 << 22
@@ -122,11 +122,51 @@ class Body:
         self.at += count
         return self.data[self.at - count:self.at]
 
-    def formats(self) -> List[int]:
-        found = list(self.numbers("h", self.number("!H")))
-        if any(it not in (0, 1) for it in found):
-            raise Refused("22023", "a format is 0 (text) or 1 (binary)")
-        return found
+
+class Bind(NamedTuple):
+    """A Bind message: names of portal and statement, values with their formats (None is NULL), and the formats of the outputs."""
+    portal: str
+    statement: str
+    values: List[Tuple[Optional[bytes], int]]
+    wanted: Tuple[int, ...]
+
+
+def read_bind(body: bytes) -> Bind:
+    """Reads a Bind message. Fails with Refused."""
+    end = body.find(b"\0")
+    at = body.find(b"\0", end + 1) + 1
+    if end < 0 or not at:
+        raise unreadable()
+    portal, statement = decoded(body[:end]), decoded(body[end + 1:at - 1])
+    try:
+        formats, at = read_formats(body, at)
+        count = body[at] << 8 | body[at + 1]
+        at += 2
+        if len(formats) not in (0, 1, count):
+            raise Refused("08P01", f"bind message has {len(formats)} parameter formats but {count} parameters")
+        values: List[Tuple[Optional[bytes], int]] = []
+        for number in range(count):
+            size = int.from_bytes(body[at:at + 4], "big", signed=True)
+            at += 4
+            value = None if size == -1 else body[at:at + size]
+            if value is not None and len(value) != size or at > len(body):
+                raise unreadable()
+            at += max(size, 0)
+            values.append((value, 0 if not formats else formats[0] if len(formats) == 1 else formats[number]))
+        return Bind(portal, statement, values, read_formats(body, at)[0])
+    except (struct.error, IndexError):
+        raise unreadable()
+
+
+def read_formats(body: bytes, at: int) -> Tuple[Tuple[int, ...], int]:
+    """Some formats, and the place behind them."""
+    count = body[at] << 8 | body[at + 1]
+    if not count:
+        return (), at + 2
+    found = struct.unpack_from(f"!{count}h", body, at + 2)
+    if any(it not in (0, 1) for it in found):
+        raise Refused("22023", "a format is 0 (text) or 1 (binary)")
+    return found, at + 2 + 2 * count
 
 
 def unreadable() -> Refused:

@@ -7,7 +7,7 @@ from ..lines import unescaped
 from .catalogue import Answer
 from .messages import Refused, complete, data_row, field, row_description
 from .outlet import Outlet, Pool
-from .rows import TEXT, data_rows
+from .rows import TEXT, data_rows, slices
 
 IN_MEMORY = 1 << 20
 FULL = Refused("53400", "the answer waits for the client to read it, and more than --spool-bytes would wait", "read faster, ask for fewer rows, or give the gateway more --spool-bytes")
@@ -35,8 +35,9 @@ def all_formats(formats: Sequence[int], width: int) -> Tuple[int, ...]:
 class Output:
     """The rows of one statement, made into messages as they come."""
 
-    def __init__(self, outlet: Outlet, oids: Optional[Sequence[int]], formats: Sequence[int], is_described: bool) -> None:
-        self.outlet, self.known, self.asked, self.is_described = outlet, oids, formats, is_described
+    def __init__(self, outlet: Outlet, sid: int, formats: Sequence[int], is_described: bool) -> None:
+        self.outlet, self.asked, self.is_described, self.prefix = outlet, formats, is_described, b"%d R\t" % sid
+        self.known: Optional[Sequence[int]] = None
         self.width, self.is_cut = 0, False
         self.oids: Tuple[int, ...] = ()
         self.formats: Tuple[int, ...] = ()
@@ -52,8 +53,9 @@ class Output:
         """Takes whole R lines."""
         if not self.width:
             self.begin(header)
-        if not self.is_cut:
-            self.is_cut = not self.outlet.stream(data_rows(rows, self.width, self.formats, self.oids)[0])
+        for piece in slices(rows):
+            if not self.is_cut:
+                self.is_cut = not self.outlet.stream(data_rows(piece, self.prefix, self.width, self.formats, self.oids)[0])
 
     def end(self, header: Optional[bytes], tag: str) -> None:
         """The statement is done."""
@@ -82,8 +84,8 @@ def messages_of(answer: Answer, formats: Sequence[int]) -> List[bytes]:
 class Held(Output):
     """The rows of a portal that is emptied step by step: in memory while they are few, else in a file, within the bound of all files."""
 
-    def __init__(self, pool: Pool, oids: Optional[Sequence[int]], formats: Sequence[int]) -> None:
-        super().__init__(None, oids, formats, True)
+    def __init__(self, pool: Pool, sid: int, formats: Sequence[int]) -> None:
+        super().__init__(None, sid, formats, True)
         self.pool, self.size, self.tag = pool, 0, ""
         self.header: Optional[bytes] = None
         self.made: Optional[Answer] = None
@@ -127,7 +129,7 @@ class Held(Output):
         lines = self.file.read() if not most else b"".join(itertools.islice(iter(self.file.readline, b""), most))
         if not lines:
             return b"", 0, False
-        rows, count = data_rows(lines, self.width, self.formats, self.oids)
+        rows, count = data_rows(lines, self.prefix, self.width, self.formats, self.oids)
         return rows, count, bool(most) and self.file.tell() < self.size
 
     def close(self) -> None:

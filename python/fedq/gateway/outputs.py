@@ -1,9 +1,10 @@
 """The names and types of a query's outputs before it runs: the names by the rule of docs/LANGUAGE.md, the types by asking the program."""
-from typing import Container, Dict, List, Mapping, Optional, Sequence, Tuple
+from typing import List, Mapping, Optional, Sequence, Tuple
 
 from ..sql import ENDS_ITEMS, RESERVED, Token, asked_type, items, with_depth
 from .engine import Engine
 from .objects import Object
+from .sentences import refusal
 from .statements import Form
 
 NO_ALIAS = ENDS_ITEMS | {"join", "inner", "left", "cross", "on", "set", "values", "select", "as"}
@@ -89,9 +90,11 @@ async def learn(form: Form, found: Sequence[Token], engine: Engine, sid: int, ta
     asked = [(at, literal) for at in range(len(names)) for literal in ("1", "'x'")]
     waiting = [engine.ask(sid, b"Q " + asked_type(found, len(names), at, literal).encode()) for at, literal in asked]
     codes = [(await it).code for it in waiting]
+    if "57014" in codes:
+        raise refusal("57014", "")
     if set(codes) - {JUDGED, WRONG_TYPE}:
         return False
     # (a column of NULLs alone could be of each type: it is a text)
     form.types = tuple(TEXT if codes[2 * at + 1] == JUDGED else BIGINT if codes[2 * at] == JUDGED else BOOLEAN for at in range(len(names)))
-    form.names = names
+    form.names = tuple(names)
     return True

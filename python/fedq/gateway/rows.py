@@ -1,11 +1,12 @@
 """Rows: the program's R lines as PostgreSQL's DataRow and CopyData messages. Whole pieces are cut into fields at once, and worked on by columns, so that there
 is no step of Python for each row; only fields with a backslash are looked at one by one."""
 import re, struct
-from operator import add
-from typing import Dict, List, Sequence, Tuple
+from operator import add, itemgetter
+from typing import Dict, Iterator, List, Sequence, Tuple
 
 BIGINT, TEXT, BOOLEAN = 20, 25, 16
 NULL = b"\\N"
+SLICE = 1 << 15
 NULL_LENGTH = b"\xff\xff\xff\xff"
 ESCAPE = re.compile(rb"\\(.)", re.S)
 MEANT = {b"t": b"\t", b"n": b"\n", b"r": b"\r", b"\\": b"\\"}
@@ -54,30 +55,37 @@ def unescaped(field: bytes) -> bytes:
     return ESCAPE.sub(lambda it: MEANT.get(it[1], it[0]), field)
 
 
-def data_rows(piece: bytes, width: int, formats: Sequence[int] = (), oids: Sequence[int] = ()) -> Tuple[bytes, int]:
-    """The DataRow messages of some whole R lines, and how many rows there are. `formats` has 1 for each column that is asked in binary."""
-    step = width + 1
-    fields = piece[:-1].replace(b"\n", b"\t").split(b"\t")
-    count = len(fields) // step
-    nulls: List[int] = []
-    if b"\\" in piece:
-        nulls = without_escapes(fields)
-    for at, (form, oid) in enumerate(zip(formats, oids), 1):
+def slices(piece: bytes) -> Iterator[bytes]:
+    """Whole lines of a piece, little enough at a time that what is made of them stays in the processor's cache."""
+    at, size = 0, len(piece)
+    while size - at > 2 * SLICE:
+        end = piece.find(b"\n", at + SLICE) + 1
+        yield piece[at:end]
+        at = end
+    if at < size:
+        yield piece[at:] if at else piece
+
+
+def data_rows(piece: bytes, prefix: bytes, width: int, formats: Sequence[int] = (), oids: Sequence[int] = ()) -> Tuple[bytes, int]:
+    """The DataRow messages of some whole R lines, each of which begins with `prefix`, and how many rows there are. `formats` has 1 for each column that is asked
+    in binary."""
+    fields = piece[len(prefix):-1].replace(b"\n" + prefix, b"\t").split(b"\t")
+    nulls = without_escapes(fields) if b"\\" in piece else ()
+    for at, (form, oid) in enumerate(zip(formats, oids)):
         if form and oid != TEXT:
-            fields[at::step] = binary(fields[at::step], oid)
+            fields[at::width] = binary(fields[at::width], oid)
     lengths = list(map(len, fields))
-    totals = lengths[1::step]
-    for at in range(2, step):
-        totals = list(map(add, totals, lengths[at::step]))
+    totals = lengths[0::width]
+    for at in range(1, width):
+        totals = list(map(add, totals, lengths[at::width]))
     parts: List[bytes] = [b""] * (2 * len(fields))
-    parts[0::2] = list(map(LENGTHS.__getitem__, lengths))
+    parts[0::2] = itemgetter(*lengths)(LENGTHS) if len(lengths) > 1 else [LENGTHS[lengths[0]]]
     for at in nulls:
         parts[2 * at] = NULL_LENGTH
     parts[1::2] = fields
     heads = HEADS.get(width) or HEADS.setdefault(width, Heads(width))
-    parts[0::2 * step] = list(map(heads.__getitem__, totals))
-    parts[1::2 * step] = [b""] * count
-    return b"".join(parts), count
+    parts[0::2 * width] = map(add, map(heads.__getitem__, totals), parts[0::2 * width])
+    return b"".join(parts), len(totals)
 
 
 def without_escapes(fields: List[bytes]) -> List[int]:

@@ -23,7 +23,7 @@ class Form:
 
     def __init__(self) -> None:
         self.types: Optional[Tuple[int, ...]] = None
-        self.names: Optional[List[str]] = None
+        self.names: Optional[Tuple[str, ...]] = None
 
 
 class Statement:
