@@ -66,6 +66,8 @@ class Catalogue:
         try:
             names, rows = self.read(text)
         except (sqlite3.Error, sqlite3.Warning, MemoryError, ValueError, OverflowError) as fault:
+            if "interrupted" in str(fault):
+                raise Refused("57014", f"the question to the catalogue took longer than {SECONDS:.0f} seconds", "restrict it by WHERE, or ask of fewer tables")
             names = names_of(found, {}) or []
             if not names or not any(it.value in EMPTY for it in found):
                 raise Refused("0A000", f"the gateway's catalogue cannot answer this: {str(fault)[:200]}",

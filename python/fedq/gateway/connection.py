@@ -78,7 +78,7 @@ class Connection(asyncio.Protocol):
 
     def eof_received(self) -> bool:
         """A client that sends no more has gone: its session ends at once, whatever it has asked."""
-        self.transport.abort()
+        self.hub.loop.call_soon(self.transport.abort)
         return False
 
     def data_received(self, data: bytes) -> None:
@@ -127,9 +127,12 @@ class Connection(asyncio.Protocol):
     def leave(self) -> None:
         """Sends what there is and closes. Who does not read it is cut off."""
         self.outlet.flush()
+        self.hub.loop.call_soon(self.close)  # (not within what the transport has called: TLS would not bear it)
+        self.hub.loop.call_later(LEAVE_SECONDS, self.transport.abort)
+
+    def close(self) -> None:
         if not self.transport.is_closing():
             self.transport.close()
-            self.hub.loop.call_later(LEAVE_SECONDS, self.transport.abort)
 
     # Messages
 

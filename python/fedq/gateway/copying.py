@@ -7,6 +7,7 @@ from .messages import COPY_DONE, Refused, complete, copy_out, message
 from .output import FULL, names_in
 from .rows import copy_rows, csv_field, csv_rows, slices
 from .sentences import refusal
+from .statements import bare
 
 if TYPE_CHECKING:
     from .session import Session
@@ -31,12 +32,12 @@ def read(found: Sequence[Token], database: str) -> Copy:
     if inner[0].raw == "(":
         query = list(inner[1:-1])
     else:
-        table = sql.without_schema(list(inner), ("public", ), (database, ))
+        table = bare(inner, database)
         query = [sql.Token("word", "SELECT", "select"), *(table[2:-1] or [sql.Token("mark", "*", "*")]), sql.Token("word", "FROM", "from"), table[0]]
     if not query or query[0].value != "select":
         raise Refused("0A000", "COPY takes a SELECT or a table", USAGE)
     is_csv, has_header = options(found[at + 2:])
-    return Copy(sql.without_schema(query, ("public", ), (database, )), is_csv, has_header)
+    return Copy(bare(query, database), is_csv, has_header)
 
 
 def options(found: Sequence[Token]) -> Tuple[bool, bool]:

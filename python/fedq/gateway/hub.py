@@ -68,8 +68,9 @@ class Hub:
 
     async def begin(self) -> None:
         """Starts the program. Fails with Gone where it does not begin."""
+        self.is_again = True
         await self.engine.begin()
-        self.is_ready = True
+        self.is_again, self.is_ready = False, True
 
     def restart(self) -> None:
         """The program has ended."""

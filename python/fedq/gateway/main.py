@@ -85,7 +85,6 @@ async def serve(words: argparse.Namespace) -> int:
         await hub.begin()
     except Gone:
         say(engine.complaint.decode(errors="replace").strip() or "the program ended as it began")
-        hub.is_again = True
         return engine.transport.get_returncode() or 1
     except OSError as fault:
         raise BadWords(f"cannot start {engine.command[0]}: {fault.strerror}; FEDQ_PROGRAM may name the program")

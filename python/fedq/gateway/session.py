@@ -179,6 +179,8 @@ class Session:
         verb, words = found[0].value, [it.value for it in found]
         if verb == "reset":
             name = ".".join(it for it in words[1:] if it != ".")
+            if not name:
+                raise Refused("42601", "RESET expects a parameter's name, or ALL", "RESET ALL")
             changed = self.settings.reset() if name == "all" else [self.settings.set(name, None)]
         elif words[1:2] == ["transaction"] or words[1:3] == ["session", "characteristics"]:
             self.transaction.characteristics(words)

@@ -3,7 +3,7 @@ import re
 from typing import Dict, FrozenSet, List, Optional, Sequence, Tuple
 
 from .. import sql
-from ..sql import Token
+from ..sql import Token, Unsayable
 from .asked import is_of_catalogue
 from .objects import Objects
 
@@ -80,13 +80,21 @@ class Statements:
             return Statement(COPY, verb, found, b"", Form())
         if verb in ("select", "with") and is_of_catalogue(found, self.objects.tables):
             return Statement(CATALOGUE, verb, found, b"", Form())
-        found = own_forms(sql.without_schema(list(found), ("public", ), (database, )))
+        found = own_forms(bare(found, database))
         return Statement(ENGINE, verb, found, sql.line(found).encode(), self.form(found))
 
     def form(self, found: Sequence[Token]) -> Form:
         """What statements of this shape share."""
         self.renew()
         return self.forms.setdefault(sql.shape(found), Form())
+
+
+def bare(found: Sequence[Token], database: str) -> List[Token]:
+    """Tokens without `public.` and `database.public.` before names. Fails with Unsayable where a name ends in a point."""
+    try:
+        return list(sql.without_schema(list(found), ("public", ), (database, )))
+    except IndexError:
+        raise Unsayable("42601", "a name is missing behind a point")
 
 
 def is_plain(shape: str, text: str, statement: Statement) -> bool:
