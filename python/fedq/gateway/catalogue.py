@@ -1,5 +1,6 @@
-"""What clients ask of pg_catalog and information_schema, answered by a SQLite database in memory that is made of the program's objects. Nothing is claimed of these
-answers but that they serve the clients of docs/CLIENTS.md. Who asks may read these tables and nothing else, in bounds of time and memory."""
+"""What clients ask of pg_catalog and information_schema, answered by a SQLite database in memory that is made of the program's objects.
+Nothing is claimed of these answers but that they serve the clients of docs/CLIENTS.md. Who asks may read these tables and nothing else,
+in bounds of time and memory."""
 import re, sqlite3, time
 from concurrent.futures import Future, ThreadPoolExecutor
 from typing import Any, Dict, List, NamedTuple, Optional, Sequence, Tuple
@@ -16,10 +17,12 @@ SECONDS, MOST_ROWS, MOST_BYTES, HEAP_BYTES = 2.0, 100_000, 1 << 25, 1 << 27
 STEPS = 10_000
 READS = (sqlite3.SQLITE_SELECT, sqlite3.SQLITE_READ, sqlite3.SQLITE_RECURSIVE)
 # Tables that are always empty: a query of one that SQLite cannot read has no rows. (Such ask for keys, indexes, constraints, triggers.)
-EMPTY = frozenset("pg_index pg_constraint pg_trigger pg_policy pg_publication pg_rewrite pg_inherits pg_sequence pg_enum pg_range pg_depend pg_event_trigger "
+EMPTY = frozenset("pg_index pg_constraint pg_trigger pg_policy pg_publication pg_rewrite pg_inherits pg_sequence pg_enum pg_range "
+                  "pg_depend pg_event_trigger "
                   "pg_statistic_ext".split())
 # Texts of drivers, as they are behind `translated`.
-KNOWN = (('( select s . r , ( current_schemas ( false ) ) as "nspname" from ( SELECT 0 AS value WHERE 0 ) as "s" ( r ) )', "( SELECT 1 AS r, 'public' AS nspname )"), )
+KNOWN = (('( select s . r , ( current_schemas ( false ) ) as "nspname" from ( SELECT 0 AS value WHERE 0 ) as "s" ( r ) )',
+          "( SELECT 1 AS r, 'public' AS nspname )"), )
 
 
 class Asker(NamedTuple):
@@ -67,7 +70,8 @@ class Catalogue:
             names, rows = self.read(text)
         except (sqlite3.Error, sqlite3.Warning, MemoryError, ValueError, OverflowError) as fault:
             if "interrupted" in str(fault):
-                raise Refused("57014", f"the question to the catalogue took longer than {SECONDS:.0f} seconds", "restrict it by WHERE, or ask of fewer tables")
+                raise Refused("57014", f"the question to the catalogue took longer than {SECONDS:.0f} seconds",
+                              "restrict it by WHERE, or ask of fewer tables")
             names = names_of(found, {}) or []
             if not names or not any(it.value in EMPTY for it in found):
                 raise Refused("0A000", f"the gateway's catalogue cannot answer this: {str(fault)[:200]}",
@@ -98,7 +102,8 @@ class Catalogue:
         self.db.execute("DELETE FROM pg_catalog.pg_settings")
         roles = [(10, self.owner)] + ([] if self.asker.user == self.owner else [(11, self.asker.user)])
         for oid, name in roles:
-            self.db.execute("INSERT INTO pg_catalog.pg_roles (oid, rolname, rolsuper, rolinherit, rolcanlogin, rolcreaterole, rolcreatedb, rolreplication, rolbypassrls, "
+            self.db.execute("INSERT INTO pg_catalog.pg_roles (oid, rolname, rolsuper, rolinherit, rolcanlogin, rolcreaterole, "
+                            "rolcreatedb, rolreplication, rolbypassrls, "
                             "rolconnlimit) VALUES (?, ?, ?, 1, 1, 0, 0, 0, 0, -1)", (oid, name, oid == 10))
         self.db.executemany("INSERT INTO pg_catalog.pg_settings (name, setting) VALUES (?, ?)", self.asker.settings.items())
         self.db.set_authorizer(self.may)

@@ -1,23 +1,34 @@
-"""The functions of the catalogue's database: PostgreSQL's, as far as clients need them, and the only ones of SQLite that a question may call."""
+"""The functions of the catalogue's database: PostgreSQL's, as far as clients need them, and the only ones of SQLite that a question may
+call."""
 import json, re, sqlite3
 from typing import Any, Callable, FrozenSet, List, Optional
 
 from .catalogue_rows import FIRST, OWNER, TYPES, VERSION
 
 MOST_TEXT, MOST_STEPS = 1 << 20, 2_000_000
-NUMBERS = {"pg_class": 1259, "pg_type": 1247, "pg_namespace": 2615, "pg_database": 1262, "pg_proc": 1255, "pg_constraint": 2606, "pg_attribute": 1249,
-           "pg_foreign_server": 1417, "pg_foreign_data_wrapper": 2328, "pg_trigger": 2620, "pg_extension": 3079, "pg_authid": 1260, "pg_rewrite": 2618}
+NUMBERS = {"pg_class": 1259, "pg_type": 1247, "pg_namespace": 2615, "pg_database": 1262, "pg_proc": 1255, "pg_constraint": 2606,
+           "pg_attribute": 1249,
+           "pg_foreign_server": 1417, "pg_foreign_data_wrapper": 2328, "pg_trigger": 2620, "pg_extension": 3079, "pg_authid": 1260,
+           "pg_rewrite": 2618}
 VISIBLE = "pg_table_is_visible pg_type_is_visible pg_function_is_visible pg_opclass_is_visible"
-ZERO = ("pg_is_in_recovery pg_relation_is_publishable pg_is_other_temp_schema inherited pg_total_relation_size pg_relation_size pg_table_size pg_database_size "
+ZERO = ("pg_is_in_recovery pg_relation_is_publishable pg_is_other_temp_schema inherited pg_total_relation_size pg_relation_size "
+        "pg_table_size pg_database_size "
         "txid_current")
-ONE = ("has_table_privilege has_schema_privilege has_database_privilege has_column_privilege has_any_column_privilege pg_has_role has_function_privilege")
-NOTHING = ("pg_get_expr pg_get_viewdef pg_get_indexdef pg_get_constraintdef pg_get_triggerdef pg_get_serial_sequence obj_description col_description shobj_description "
-           "pg_get_partkeydef generate_subscripts pg_get_function_arguments pg_get_function_identity_arguments pg_get_statisticsobjdef_columns pg_get_function_result "
-           "pg_get_ruledef inet_server_addr inet_server_port pg_stat_get_numscans pg_my_temp_schema pg_tablespace_location pg_advisory_unlock_all pg_get_keywords")
-OF_SQLITE = ("count min max sum total avg coalesce nullif ifnull iif lower upper length substr trim ltrim rtrim instr abs round group_concat json_array json_object "
+ONE = ("has_table_privilege has_schema_privilege has_database_privilege has_column_privilege has_any_column_privilege pg_has_role "
+       "has_function_privilege")
+NOTHING = ("pg_get_expr pg_get_viewdef pg_get_indexdef pg_get_constraintdef pg_get_triggerdef pg_get_serial_sequence obj_description "
+           "col_description shobj_description "
+           "pg_get_partkeydef generate_subscripts pg_get_function_arguments pg_get_function_identity_arguments "
+           "pg_get_statisticsobjdef_columns pg_get_function_result "
+           "pg_get_ruledef inet_server_addr inet_server_port pg_stat_get_numscans pg_my_temp_schema pg_tablespace_location "
+           "pg_advisory_unlock_all pg_get_keywords")
+OF_SQLITE = ("count min max sum total avg coalesce nullif ifnull iif lower upper length substr trim ltrim rtrim instr abs round "
+             "group_concat json_array json_object "
              "json_group_array json_each json_array_length row_number rank dense_rank")
-OWN = ("version current_database current_schema current_user current_schemas pg_backend_pid current_setting set_config pg_get_userbyid format_type regclass to_regclass "
-       "regclass_text regtype regexp like replace pg_encoding_to_char array_to_string array_length array_upper quote_ident pg_size_pretty concat position2 now "
+OWN = ("version current_database current_schema current_user current_schemas pg_backend_pid current_setting set_config pg_get_userbyid "
+       "format_type regclass to_regclass "
+       "regclass_text regtype regexp like replace pg_encoding_to_char array_to_string array_length array_upper quote_ident "
+       "pg_size_pretty concat position2 now "
        "pg_postmaster_start_time")
 SAFE: FrozenSet[str] = frozenset(" ".join((VISIBLE, ZERO, ONE, NOTHING, OF_SQLITE, OWN)).split())
 
@@ -110,7 +121,8 @@ def replaced(text: Any, part: Any, other: Any) -> Optional[str]:
 
 
 def matches(pattern: Any, text: Any) -> Optional[bool]:
-    """Whether a regular expression is found in a text. One that might work very long is refused: with a repeated group, or too many repetitions for the text."""
+    """Whether a regular expression is found in a text. One that might work very long is refused: with a repeated group, or too many
+    repetitions for the text."""
     if pattern is None or text is None:
         return None
     pattern, text = str(pattern), str(text)

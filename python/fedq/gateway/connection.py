@@ -8,7 +8,8 @@ from .catalogue import Asker
 from .engine import Gone, TooLong
 from .extended import Extended
 from .flow import Flow, Wait
-from .messages import (CANCEL_REQUEST, EMPTY_QUERY, GSS_REQUEST, READY, SSL_REQUEST, START_BYTES, VERSION_3, Body, Refused, cut, decoded, error, message, parameter_status)
+from .messages import (CANCEL_REQUEST, EMPTY_QUERY, GSS_REQUEST, READY, SSL_REQUEST, START_BYTES, VERSION_3, Body, Refused, cut, decoded,
+                       error, message, parameter_status)
 from .outlet import Outlet
 from .output import Output
 from .scram import BadUsers, Wrong
@@ -227,12 +228,14 @@ class Connection(asyncio.Protocol):
             elif code == VERSION_3:
                 break
             else:
-                raise Refused("0A000", f"unsupported frontend protocol {code >> 16}.{code & 65535}: server supports 3.0", "use a client of PostgreSQL 7.4 or later")
+                raise Refused("0A000", f"unsupported frontend protocol {code >> 16}.{code & 65535}: server supports 3.0",
+                              "use a client of PostgreSQL 7.4 or later")
         given = self.words(body)
         user, database = given.pop("user", ""), given.pop("database", "")
         await self.authenticate(user)
         self.timer.cancel()
-        settings = Settings(user, {name: value for name, value in given.items() if name not in ("options", "replication") and not name.startswith("_pq_.")})
+        settings = Settings(user, {name: value for name, value in given.items() if name not in ("options", "replication")
+                                   and not name.startswith("_pq_.")})
         session = Extended(self.hub, self.outlet, Asker(user, database or "fedq", self.pid, {}), settings)
         session.begin()
         await self.open(session, user)
@@ -256,7 +259,8 @@ class Connection(asyncio.Protocol):
         self.transport.pause_reading()
         self.transport.write(b"S")
         wait = Wait()
-        task = asyncio.ensure_future(self.hub.loop.start_tls(self.transport, self, self.hub.tls, server_side=True, ssl_handshake_timeout=20))
+        task = asyncio.ensure_future(self.hub.loop.start_tls(self.transport, self, self.hub.tls, server_side=True,
+                                                             ssl_handshake_timeout=20))
         task.add_done_callback(lambda it: wait.done(None if it.cancelled() or it.exception() else it.result()))
         made = await wait
         if made is None:
@@ -285,7 +289,8 @@ class Connection(asyncio.Protocol):
             self.hub.loop.call_later(WRONG_SECONDS, wait.done)
             await wait
             self.end = "gave a wrong password"
-            raise Refused("28P01", f'password authentication failed for user "{user[:63]}"', "`fedq-gateway --add-user NAME` gives a user a password")
+            raise Refused("28P01", f'password authentication failed for user "{user[:63]}"', "`fedq-gateway --add-user NAME` gives a "
+                          "user a password")
         self.transport.write(message(b"R", b"\0\0\0\x0c" + last.encode()))
 
     async def password(self) -> bytes:
@@ -308,9 +313,11 @@ class Connection(asyncio.Protocol):
                 await self.hub.ready()
             sid = await self.hub.engine.open(user)
         except ValueError:
-            raise Refused("28000", f'"{user[:63]}" is no name of a user', "a-z, 0-9 and _, 1 to 63 characters, and not public, user or current_user")
+            raise Refused("28000", f'"{user[:63]}" is no name of a user', "a-z, 0-9 and _, 1 to 63 characters, and not public, user or "
+                          "current_user")
         if sid is None:
-            raise Refused("53300", "sorry, too many clients already: 255 are served at a time", "close a connection, or share some by a pool")
+            raise Refused("53300", "sorry, too many clients already: 255 are served at a time", "close a connection, or share some by a "
+                          "pool")
         session.sid, session.starts = sid, self.hub.engine.starts
 
     def greet(self, session: Extended) -> None:

@@ -33,7 +33,8 @@ def read(found: Sequence[Token], database: str) -> Copy:
         query = list(inner[1:-1])
     else:
         table = bare(inner, database)
-        query = [sql.Token("word", "SELECT", "select"), *(table[2:-1] or [sql.Token("mark", "*", "*")]), sql.Token("word", "FROM", "from"), table[0]]
+        query = [sql.Token("word", "SELECT", "select"), *(table[2:-1] or [sql.Token("mark", "*", "*")]),
+                 sql.Token("word", "FROM", "from"), table[0]]
     if not query or query[0].value != "select":
         raise Refused("0A000", "COPY takes a SELECT or a table", USAGE)
     is_csv, has_header = options(found[at + 2:])
@@ -41,7 +42,8 @@ def read(found: Sequence[Token], database: str) -> Copy:
 
 
 def options(found: Sequence[Token]) -> Tuple[bool, bool]:
-    """Whether the form is csv, and whether there is a header. Fails with Refused where another option is asked, unless it says what is so anyway."""
+    """Whether the form is csv, and whether there is a header. Fails with Refused where another option is asked, unless it says what is so
+    anyway."""
     words = [it.value for it in found if it.raw not in ("(", ")", ",", "=")]
     is_csv = "csv" in words
     has_header = "header" in words and words[words.index("header") + 1:][:1] not in (["false"], ["off"], ["0"])
@@ -69,7 +71,8 @@ class CopyOutput:
         self.width = header.count(b"\t") + 1
         self.outlet.add(copy_out(self.width))
         if self.copy.has_header:
-            fields = [csv_field(it.encode().replace(b"\\", b"\\\\")) for it in names_in(header)] if self.copy.is_csv else header.split(b"\t")
+            fields = [csv_field(it.encode().replace(b"\\", b"\\\\"))
+                      for it in names_in(header)] if self.copy.is_csv else header.split(b"\t")
             self.outlet.add(message(b"d", (b"," if self.copy.is_csv else b"\t").join(fields) + b"\n"))
 
     def take(self, header: bytes, rows: bytes) -> None:

@@ -4,7 +4,8 @@ from typing import Dict, List, Optional, Sequence, Tuple
 
 from .. import sql
 from ..sql import Token
-from .messages import (BIND_COMPLETE, CLOSE_COMPLETE, EMPTY_QUERY, NO_DATA, PARSE_COMPLETE, SUSPENDED, Body, Refused, complete, parameter_description, read_bind,
+from .messages import (BIND_COMPLETE, CLOSE_COMPLETE, EMPTY_QUERY, NO_DATA, PARSE_COMPLETE, SUSPENDED, Body, Refused, complete,
+                       parameter_description, read_bind,
                        row_description)
 from .output import Held, Output, all_formats, names_in
 from .parameters import infer, is_known, literal, places, samples
@@ -23,7 +24,8 @@ def described_by(names: Tuple[str, ...], oids: Tuple[int, ...], formats: Tuple[i
 
 
 class Prepared:
-    """A prepared statement: its tokens, and the types of its parameters; 0 where a type is not known yet. `pieces` are the parts of its line between parameters."""
+    """A prepared statement: its tokens, and the types of its parameters; 0 where a type is not known yet. `pieces` are the parts of its
+    line between parameters."""
 
     def __init__(self, found: Sequence[Token], oids: Sequence[int], statements: Statements, database: str) -> None:
         self.given, self.statements, self.database = found, statements, database
@@ -132,7 +134,8 @@ class Extended(Session):
         name, prepared, values = found.portal, self.statement_of(found.statement), found.values
         if len(values) != prepared.count:
             raise Refused("08P01", f"bind message supplies {len(values)} parameters, but the prepared statement requires {prepared.count}")
-        if values and not prepared.is_typed and any(value is not None and not is_known(oid) for (value, _), oid in zip(values, prepared.oids)):
+        if values and not prepared.is_typed and any(value is not None and not is_known(oid) for (value, _),
+                                                    oid in zip(values, prepared.oids)):
             await self.infer(prepared)
         if name in self.portals:
             if name:
@@ -146,7 +149,8 @@ class Extended(Session):
     def statement_of(self, name: str) -> Prepared:
         prepared = self.prepared.get(name)
         if prepared is None:
-            raise Refused("26000", f'prepared statement "{name}" does not exist', "prepare it again: DISCARD and DEALLOCATE forget statements")
+            raise Refused("26000", f'prepared statement "{name}" does not exist', "prepare it again: DISCARD and DEALLOCATE forget "
+                          "statements")
         return prepared
 
     async def infer(self, prepared: Prepared) -> None:
@@ -244,7 +248,8 @@ class Extended(Session):
     def give(self, portal: Portal, most: int) -> None:
         rows, count, has_more = portal.held.next(most)
         if rows and not self.outlet.stream(rows):
-            raise Refused("53400", "the answer waits for the client to read it, and more than --spool-bytes would wait", "read faster, or ask for fewer rows")
+            raise Refused("53400", "the answer waits for the client to read it, and more than --spool-bytes would wait",
+                          "read faster, or ask for fewer rows")
         verb = portal.held.tag.partition(" ")[0]
         self.outlet.add(SUSPENDED if has_more else complete(f"{verb} {count}" if verb in ("SELECT", "FETCH") else portal.held.tag))
 

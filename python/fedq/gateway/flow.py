@@ -1,4 +1,5 @@
-"""Waiting without the loop's help: the coroutine of a session is resumed by the very event that it waits for, as a reply, and not a turn of the loop later."""
+"""Waiting without the loop's help: the coroutine of a session is resumed by the very event that it waits for, as a reply, and not a turn
+of the loop later."""
 import asyncio, sys, traceback
 from typing import Any, Callable, Coroutine, Generator, Optional
 
@@ -29,7 +30,8 @@ class Wait:
 
 
 class Flow:
-    """Runs one coroutine that awaits Waits alone. A fault that the coroutine does not take ends it, is written to standard error, and is told to `failed`."""
+    """Runs one coroutine that awaits Waits alone. A fault that the coroutine does not take ends it, is written to standard error, and is
+    told to `failed`."""
 
     def __init__(self, coroutine: Coroutine, failed: Callable[[], None]) -> None:
         self.coroutine: Optional[Coroutine] = coroutine

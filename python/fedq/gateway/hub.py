@@ -20,7 +20,8 @@ MOST_CONNECTIONS = 600
 class Hub:
     """One for all clients."""
 
-    def __init__(self, engine: Engine, objects: Objects, users: Optional[Users], tls: Optional[ssl.SSLContext], spool_bytes: int, is_verbose: bool) -> None:
+    def __init__(self, engine: Engine, objects: Objects, users: Optional[Users], tls: Optional[ssl.SSLContext], spool_bytes: int,
+                 is_verbose: bool) -> None:
         self.engine, self.objects, self.users, self.tls, self.is_verbose = engine, objects, users, tls, is_verbose
         self.loop = asyncio.get_running_loop()
         self.pool, self.statements, self.catalogue = Pool(spool_bytes), Statements(objects), Catalogue(engine.owner)
@@ -46,7 +47,8 @@ class Hub:
         if self.is_verbose:
             session, seconds = connection.session, time.monotonic() - connection.began
             who = f"{session.user}@{session.database}" if session else "nobody"
-            print(f"fedq-gateway: {connection.peer} {who}{' by TLS' if connection.is_secure else ''} {connection.end} after {seconds:.3f} s", file=sys.stderr, flush=True)
+            print(f"fedq-gateway: {connection.peer} {who}{' by TLS' if connection.is_secure else ''} {connection.end} after "
+                  f"{seconds:.3f} s", file=sys.stderr, flush=True)
 
     def cancel(self, pid: int, secret: int) -> None:
         """Cancels what a client's session asks, where the secret is its own."""
@@ -82,7 +84,8 @@ class Hub:
     async def again(self) -> None:
         """Starts the program again, and makes the objects that were made since."""
         complaint = self.engine.complaint.decode(errors="replace").strip()
-        print("fedq-gateway: the program ended" + (f": {complaint}" if complaint else "") + "; it is started again", file=sys.stderr, flush=True)
+        print("fedq-gateway: the program ended" + (f": {complaint}" if complaint else "") + "; it is started again", file=sys.stderr,
+              flush=True)
         delay = FIRST_DELAY
         while True:
             try:
@@ -117,4 +120,5 @@ class Hub:
 
     def give_up(self, wait: Wait) -> None:
         self.waits.discard(wait)
-        wait.done(None, Refused("57P03", "the program is being started again", "ask again in a moment; the gateway's standard error says why it ended"))
+        wait.done(None, Refused("57P03", "the program is being started again", "ask again in a moment; the gateway's standard error "
+                                "says why it ended"))

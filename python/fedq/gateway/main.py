@@ -106,7 +106,8 @@ async def listen(hub: Hub, words: argparse.Namespace, servers: List[asyncio.Abst
         say("no --init: folders and databases have no tables yet. `fedq-setup` with the same words and --out FILE writes an init file")
     if words.host:
         if words.users is None:
-            say("without --users whoever reaches the port, so any user of this machine, is whoever he says: keep it from others, or use --users or --socket")
+            say("without --users whoever reaches the port, so any user of this machine, is whoever he says: keep it from others, or use "
+                "--users or --socket")
         await listen_on(hub, lambda: Connection(hub), words.host, words.port, servers, "")
     if words.socket:
         path = os.path.join(words.socket, f".s.PGSQL.{words.port}")
@@ -123,7 +124,8 @@ async def listen(hub: Hub, words: argparse.Namespace, servers: List[asyncio.Abst
         await listen_on(hub, lambda: Lines(hub), "127.0.0.1", words.lines_port, servers, " (lines)")
 
 
-async def listen_on(hub: Hub, make: Callable[[], asyncio.Protocol], host: str, port: int, servers: List[asyncio.AbstractServer], what: str) -> None:
+async def listen_on(hub: Hub, make: Callable[[], asyncio.Protocol], host: str, port: int, servers: List[asyncio.AbstractServer],
+                    what: str) -> None:
     try:
         server = await hub.loop.create_server(make, host, port, backlog=BACKLOG)
     except OSError as fault:

@@ -5,7 +5,8 @@ from typing import Deque, List, NamedTuple, Optional, Sequence, Tuple
 SSL_REQUEST, GSS_REQUEST, CANCEL_REQUEST, VERSION_3 = 80877103, 80877104, 80877102, 196608
 START_BYTES, MESSAGE_BYTES = 10_000, 1 << 22
 SIZES = {16: 1, 18: 1, 19: 64, 20: 8, 21: 2, 23: 4, 26: 4, 701: 8, 2205: 4}
-PARSE_COMPLETE, BIND_COMPLETE, CLOSE_COMPLETE, NO_DATA, EMPTY_QUERY, SUSPENDED, COPY_DONE = (kind + b"\0\0\0\4" for kind in (b"1", b"2", b"3", b"n", b"I", b"s", b"c"))
+PARSE_COMPLETE, BIND_COMPLETE, CLOSE_COMPLETE, NO_DATA = b"1\0\0\0\4", b"2\0\0\0\4", b"3\0\0\0\4", b"n\0\0\0\4"
+EMPTY_QUERY, SUSPENDED, COPY_DONE = b"I\0\0\0\4", b"s\0\0\0\4", b"c\0\0\0\4"
 READY = {status: b"Z\0\0\0\5" + status for status in (b"I", b"T", b"E")}
 
 
@@ -79,12 +80,14 @@ def data_row(fields: Sequence[Optional[bytes]]) -> bytes:
 
 
 def cut(data: bytes, at: int, inbox: Deque[Tuple[int, bytes]]) -> int:
-    """Cuts whole messages into `inbox`, each its kind and body. Returns where the rest begins. Fails with Refused where a message is too long or has no length."""
+    """Cuts whole messages into `inbox`, each its kind and body. Returns where the rest begins. Fails with Refused where a message is too
+    long or has no length."""
     size = len(data)
     while size - at >= 5:
         length = int.from_bytes(data[at + 1:at + 5], "big")
         if not 4 <= length <= MESSAGE_BYTES:
-            raise Refused("08P01", f"a message has a length of {length}: 4 to {MESSAGE_BYTES:,} bytes are taken", "send the values in smaller statements")
+            raise Refused("08P01", f"a message has a length of {length}: 4 to {MESSAGE_BYTES:,} bytes are taken",
+                          "send the values in smaller statements")
         if size - at <= length:
             break
         inbox.append((data[at], data[at + 5:at + 1 + length]))

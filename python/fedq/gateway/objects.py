@@ -3,7 +3,8 @@ from typing import Dict, List, NamedTuple, Sequence, Tuple
 
 from ..sql import Token, statements
 
-TYPES = {"smallint": "integer", "integer": "integer", "int": "integer", "bigint": "integer", "text": "text", "boolean": "boolean", "bool": "boolean"}
+TYPES = {"smallint": "integer", "integer": "integer", "int": "integer", "bigint": "integer", "text": "text", "boolean": "boolean",
+         "bool": "boolean"}
 KINDS = {"table": ("foreign", "table"), "wrapper": ("foreign", "data", "wrapper"), "server": ("server", ), "mapping": ("user", "mapping")}
 BEHIND = {"wrapper": ("handler", ), "server": ("foreign", "data", "wrapper")}
 # What `--list NAME` makes.

@@ -1,4 +1,5 @@
-"""What goes to one client. What it does not read waits in a temporary file, so the program is not held up and memory stays small; the file has a bound."""
+"""What goes to one client. What it does not read waits in a temporary file, so the program is not held up and memory stays small; the
+file has a bound."""
 import asyncio, tempfile
 from typing import IO, List, Optional
 
@@ -39,7 +40,8 @@ class Outlet:
         self.parts.append(data)
 
     def stream(self, rows: bytes) -> bool:
-        """Adds rows, and hands on what there is where it is much. Returns False where the bound of the file is reached: then the rows are left out."""
+        """Adds rows, and hands on what there is where it is much. Returns False where the bound of the file is reached: then the rows are
+        left out."""
         if self.is_behind and not self.pool.has(len(rows)):
             return False
         self.parts.append(rows)

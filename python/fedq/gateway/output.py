@@ -10,7 +10,8 @@ from .outlet import Outlet, Pool
 from .rows import TEXT, data_rows, slices
 
 IN_MEMORY = 1 << 20
-FULL = Refused("53400", "the answer waits for the client to read it, and more than --spool-bytes would wait", "read faster, ask for fewer rows, or give the gateway more --spool-bytes")
+FULL = Refused("53400", "the answer waits for the client to read it, and more than --spool-bytes would wait",
+               "read faster, ask for fewer rows, or give the gateway more --spool-bytes")
 
 
 @lru_cache(4096)

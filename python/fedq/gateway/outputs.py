@@ -23,7 +23,8 @@ def entries(found: Sequence[Token]) -> List[Tuple[str, str]]:
             if it.value == "union":
                 break
             is_from = it.value == "from"
-        elif is_from and depth == 0 and it.kind in NAMES and before and (before.raw == "," or before.kind == "word" and before.value in ("from", "join")):
+        elif is_from and depth == 0 and it.kind in NAMES and before and (before.raw == "," or before.kind == "word"
+                                                                         and before.value in ("from", "join")):
             pairs.append((alias(found[at + 1:at + 3]) or it.value, it.value))
     return pairs
 
@@ -80,8 +81,8 @@ def names_of(found: Sequence[Token], tables: Mapping[str, Object]) -> Optional[L
 
 
 async def learn(form: Form, found: Sequence[Token], engine: Engine, sid: int, tables: Mapping[str, Object]) -> bool:
-    """Finds the names and types of a query's outputs by two requests a column, which the program judges and does not run. Returns False where the program
-    would refuse the query, or its outputs cannot be counted."""
+    """Finds the names and types of a query's outputs by two requests a column, which the program judges and does not run. Returns False
+    where the program would refuse the query, or its outputs cannot be counted."""
     if form.types is not None:
         return True
     names = names_of(found, tables)

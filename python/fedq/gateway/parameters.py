@@ -13,7 +13,8 @@ WHOLE_NUMBERS = {20: 8, 21: 2, 23: 4, 26: 4}
 TEXTS = (25, 1042, 1043, 18, 19)
 BOOLEAN, NUMERIC, UNKNOWN = 16, 1700, (0, 705)
 TRUTHS = {**dict.fromkeys(("t", "true", "1", "yes", "on", "y"), "TRUE"), **dict.fromkeys(("f", "false", "0", "no", "off", "n"), "FALSE")}
-TYPE_NAMES = {17: "bytea", 700: "real", 701: "double precision", 1082: "date", 1083: "time", 1114: "timestamp", 1184: "timestamp with time zone", 2950: "uuid",
+TYPE_NAMES = {17: "bytea", 700: "real", 701: "double precision", 1082: "date", 1083: "time", 1114: "timestamp",
+              1184: "timestamp with time zone", 2950: "uuid",
               114: "json", 3802: "jsonb", 1186: "interval"}
 # For each type a literal of it, which stands for a value while the program is asked about types.
 SAMPLES = {25: "'x'", 20: "1", 16: "TRUE"}
@@ -33,7 +34,8 @@ def literal(value: Optional[bytes], form: int, oid: int) -> str:
         return truth(value, form)
     if oid not in TEXTS and is_known(oid):
         name = TYPE_NAMES.get(oid, f"number {oid}")
-        raise Refused("42846", f"a parameter of the type {name} has no literal: whole numbers, texts and booleans are all", "give a text, as '2024-05-01', or a whole number")
+        raise Refused("42846", f"a parameter of the type {name} has no literal: whole numbers, texts and booleans are all",
+                      "give a text, as '2024-05-01', or a whole number")
     try:
         return sql.quoted_text(value.decode())
     except UnicodeDecodeError:
@@ -43,7 +45,8 @@ def literal(value: Optional[bytes], form: int, oid: int) -> str:
 def whole_number(value: bytes, form: int, oid: int) -> str:
     if form:
         if WHOLE_NUMBERS.get(oid) != len(value):
-            raise Refused("22P03", "a binary parameter has another length than its type, or is a decimal", "give a decimal's digits as text, or a whole number")
+            raise Refused("22P03", "a binary parameter has another length than its type, or is a decimal",
+                          "give a decimal's digits as text, or a whole number")
         return str(int.from_bytes(value, "big", signed=oid != 26))
     text = value.decode("ascii", "replace").strip()
     if not re.fullmatch(r"[+-]?[0-9]{1,40}", text):
@@ -74,12 +77,13 @@ def places(found: Sequence[Token]) -> Dict[int, Tuple[str, int]]:
 
 def samples(oids: Sequence[int]) -> List[str]:
     """Literals that stand for values: of the type where it is known, else NULL."""
-    return [SAMPLES[25] if oid in TEXTS else SAMPLES[20] if oid in WHOLE_NUMBERS or oid == NUMERIC else SAMPLES.get(oid, "NULL") for oid in oids]
+    return [SAMPLES[25] if oid in TEXTS else SAMPLES[20] if oid in WHOLE_NUMBERS or oid == NUMERIC else SAMPLES.get(oid, "NULL")
+            for oid in oids]
 
 
 async def infer(found: Sequence[Token], oids: List[int], engine: Engine, sid: int, tables: Mapping[str, Object]) -> None:
-    """Finds the types, in place, that the client left open: the program judges a text, a whole number and a boolean in each place, and runs none of them. (A text
-    where several fit, as in PostgreSQL.)"""
+    """Finds the types, in place, that the client left open: the program judges a text, a whole number and a boolean in each place, and
+    runs none of them. (A text where several fit, as in PostgreSQL.)"""
     for at, oid in enumerate(oids):
         if not is_known(oid):
             for own, sample in SAMPLES.items():
@@ -93,13 +97,15 @@ async def infer(found: Sequence[Token], oids: List[int], engine: Engine, sid: in
 
 
 async def is_typed(found: Sequence[Token], engine: Engine, sid: int, tables: Mapping[str, Object]) -> bool:
-    """Whether there is no fault of syntax, names or types. Nothing runs: the program judges nine cores, which it refuses by 54000 once types are judged."""
+    """Whether there is no fault of syntax, names or types. Nothing runs: the program judges nine cores, which it refuses by 54000 once
+    types are judged."""
     text = judged_alone(found, tables)
     return bool(text) and (await engine.ask(sid, b"Q " + text.encode())).code == "54000"
 
 
 def judged_alone(found: Sequence[Token], tables: Mapping[str, Object]) -> str:
-    """A text that has the faults of syntax, names and types of a statement, and is refused for its number of cores where it has none. Empty where there is none."""
+    """A text that has the faults of syntax, names and types of a statement, and is refused for its number of cores where it has none.
+    Empty where there is none."""
     verb = found[0].value if found else ""
     if verb == "select":
         return sql.line(sql.cores(found)) + nulls(len(names_of(found, tables) or [0]))

@@ -1,5 +1,5 @@
-"""Rows: the program's R lines as PostgreSQL's DataRow and CopyData messages. Whole pieces are cut into fields at once, and worked on by columns, so that there
-is no step of Python for each row; only fields with a backslash are looked at one by one."""
+"""Rows: the program's R lines as PostgreSQL's DataRow and CopyData messages. Whole pieces are cut into fields at once, and worked on by
+columns, so that there is no step of Python for each row; only fields with a backslash are looked at one by one."""
 import re, struct
 from operator import add, itemgetter
 from typing import Dict, Iterator, List, Sequence, Tuple
@@ -67,8 +67,8 @@ def slices(piece: bytes) -> Iterator[bytes]:
 
 
 def data_rows(piece: bytes, prefix: bytes, width: int, formats: Sequence[int] = (), oids: Sequence[int] = ()) -> Tuple[bytes, int]:
-    """The DataRow messages of some whole R lines, each of which begins with `prefix`, and how many rows there are. `formats` has 1 for each column that is asked
-    in binary."""
+    """The DataRow messages of some whole R lines, each of which begins with `prefix`, and how many rows there are. `formats` has 1 for
+    each column that is asked in binary."""
     fields = piece[len(prefix):-1].replace(b"\n" + prefix, b"\t").split(b"\t")
     nulls = without_escapes(fields) if b"\\" in piece else ()
     for at, (form, oid) in enumerate(zip(formats, oids)):
@@ -89,7 +89,8 @@ def data_rows(piece: bytes, prefix: bytes, width: int, formats: Sequence[int] = 
 
 
 def without_escapes(fields: List[bytes]) -> List[int]:
-    """Takes the escapes out of fields, in place. Returns the places of NULL, whose fields become empty. (NULL is looked for first: `\\\\N` is a text.)"""
+    """Takes the escapes out of fields, in place. Returns the places of NULL, whose fields become empty. (NULL is looked for first:
+    `\\\\N` is a text.)"""
     nulls = []
     for at in [at for at, it in enumerate(fields) if b"\\" in it]:
         if fields[at] == NULL:

@@ -17,17 +17,21 @@ SENTENCES: Dict[str, Tuple[str, str]] = {
     "34000": ("there is no cursor of this name", "DECLARE it first; it ends with its transaction, unless it is WITH HOLD"),
     "42501": ("permission denied: only the owner may CREATE and DROP, and a write needs a user mapping with mode 'write'",
               "ask the owner for CREATE USER MAPPING .. OPTIONS (mode 'write')"),
-    "42601": ("syntax error: the text is no statement of fedq's SQL", "docs/ERRORS.md#sql-that-this-profile-lacks says what to write instead"),
+    "42601": ("syntax error: the text is no statement of fedq's SQL", "docs/ERRORS.md#sql-that-this-profile-lacks says what to write "
+              "instead"),
     "42622": ("a name has more than 63 bytes", "write a shorter one"),
     "42701": ("a column is named twice", "name it once"),
     "42702": ("a column's name is in two tables of FROM", "write table.column"),
     "42703": ("a column does not exist", "\\d NAME lists a table's columns; texts are in single quotes"),
-    "42704": ("an object does not exist, or you have no user mapping on the table's server", "ask the owner for CREATE USER MAPPING FOR your name SERVER .."),
+    "42704": ("an object does not exist, or you have no user mapping on the table's server", "ask the owner for CREATE USER MAPPING FOR "
+              "your name SERVER .."),
     "42710": ("the object exists already", "CREATE .. IF NOT EXISTS leaves it as it is"),
     "42712": ("two tables of FROM have one name", "give one an alias"),
-    "42803": ("a column is no key of GROUP BY, or an aggregate is where none may be", "put the column into GROUP BY, or into min() or max()"),
+    "42803": ("a column is no key of GROUP BY, or an aggregate is where none may be", "put the column into GROUP BY, or into min() or "
+              "max()"),
     "42804": ("a value has another type than is asked there", "nothing is converted: write a literal of the column's type"),
-    "42883": ("there is no such function, or no such operator between these types", "nothing is converted; count, sum, min and max are all functions"),
+    "42883": ("there is no such function, or no such operator between these types", "nothing is converted; count, sum, min and max are "
+              "all functions"),
     "42P01": ("a table does not exist", "\\dt lists the tables"),
     "42P03": ("the cursor exists already", "CLOSE it, or choose another name"),
     "42P07": ("the table exists already", "CREATE FOREIGN TABLE IF NOT EXISTS leaves it as it is"),

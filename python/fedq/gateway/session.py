@@ -1,4 +1,5 @@
-"""One client's session: its statements, its transaction, its cursors. Each statement goes to the program, to the catalogue, or is answered here."""
+"""One client's session: its statements, its transaction, its cursors. Each statement goes to the program, to the catalogue, or is
+answered here."""
 from typing import TYPE_CHECKING, Dict, NamedTuple, Optional, Tuple
 
 from ..sql import Token, Unsayable
@@ -23,7 +24,8 @@ AUTOCOMMIT = "turn autocommit on (psycopg2: connection.autocommit = True), or SE
 
 
 class Cursor(NamedTuple):
-    """A cursor of DECLARE: the names and types of its outputs where they are known, whether it lives on behind COMMIT, and whether its transaction has not ended."""
+    """A cursor of DECLARE: the names and types of its outputs where they are known, whether it lives on behind COMMIT, and whether its
+    transaction has not ended."""
     names: Tuple[str, ...]
     types: Tuple[int, ...]
     is_held: bool
@@ -43,7 +45,8 @@ class Session:
     # The program
 
     async def ensure(self) -> None:
-        """Waits until the program is there, and opens the session again where it was started anew. Fails with Refused (57P01) where something of the session is gone."""
+        """Waits until the program is there, and opens the session again where it was started anew. Fails with Refused (57P01) where
+        something of the session is gone."""
         if not self.hub.is_ready:
             await self.hub.ready()
         if self.starts != self.engine.starts:
@@ -51,7 +54,8 @@ class Session:
             await self.engine.reopen(self.sid, self.user)
             if self.cursors or self.transaction.status != IDLE:
                 self.cursors.clear()
-                raise Refused("57P01", "the program was started again: the session's cursors and its transaction are gone", "begin the transaction again")
+                raise Refused("57P01", "the program was started again: the session's cursors and its transaction are gone",
+                              "begin the transaction again")
 
     async def ask(self, text: bytes, take: Optional[Take] = None) -> Reply:
         """Asks one statement. A statement that the program did not get before it ended is asked again of the next one."""
@@ -69,7 +73,8 @@ class Session:
                     timer.cancel()
 
     def cancel(self) -> None:
-        """Takes back what waits. What runs goes on in the program: the client of a query is told at once and its rows are dropped; a write is not told of before it is done."""
+        """Takes back what waits. What runs goes on in the program: the client of a query is told at once and its rows are dropped; a
+        write is not told of before it is done."""
         if not self.sid or self.engine.take_back(self.sid):
             return
         running = self.engine.running(self.sid)
@@ -133,7 +138,8 @@ class Session:
             await learn(form, query, self.engine, self.sid, self.hub.objects.tables)
             before = [it.value for it in statement.found[:len(statement.found) - len(query)] if it.kind == "word"]
             is_held = "hold" in before[1:]
-            self.cursors[statement.found[1].value] = Cursor(tuple(form.names or ()), form.types or (), is_held, self.transaction.status != IDLE)
+            self.cursors[statement.found[1].value] = Cursor(tuple(form.names or ()), form.types or (), is_held,
+                                                            self.transaction.status != IDLE)
         elif verb == "close":
             self.cursors.pop(statement.found[-1].value, None)
 
@@ -234,7 +240,9 @@ def told(fault: Exception) -> Refused:
     if isinstance(fault, TooLong):
         return Refused("54000", "the statement is longer than a request may be, 1,048,576 bytes", "send it in parts")
     if isinstance(fault, Gone):
-        text = f"the program ended while it was at work: {NO_ANSWER}" if fault.was_sent else "the program ended before it got the statement: it was not done"
+        text = f"the program ended while it was at work: {NO_ANSWER}"
+        if not fault.was_sent:
+            text = "the program ended before it got the statement: it was not done"
         return Refused("57P01", text, "it is started again: ask again")
     raise fault
 

@@ -6,21 +6,27 @@ from .catalogue_rows import VERSION
 from .messages import Refused
 
 DEFAULTS: Dict[str, str] = {
-    "server_version": VERSION, "server_version_num": "150000", "standard_conforming_strings": "on", "client_encoding": "UTF8", "server_encoding": "UTF8",
+    "server_version": VERSION, "server_version_num": "150000", "standard_conforming_strings": "on", "client_encoding": "UTF8",
+    "server_encoding": "UTF8",
     "transaction_isolation": "read committed", "default_transaction_isolation": "read committed", "transaction_read_only": "off",
-    "default_transaction_read_only": "off", "datestyle": "ISO, MDY", "timezone": "UTC", "integer_datetimes": "on", "intervalstyle": "postgres",
-    "search_path": "public", "max_identifier_length": "63", "lc_collate": "C", "lc_ctype": "C", "max_index_keys": "32", "statement_timeout": "0", "application_name": "",
+    "default_transaction_read_only": "off", "datestyle": "ISO, MDY", "timezone": "UTC", "integer_datetimes": "on",
+    "intervalstyle": "postgres",
+    "search_path": "public", "max_identifier_length": "63", "lc_collate": "C", "lc_ctype": "C", "max_index_keys": "32",
+    "statement_timeout": "0", "application_name": "",
     "extra_float_digits": "1", "bytea_output": "hex", "client_min_messages": "notice", "is_superuser": "off", "in_hot_standby": "off",
     "default_transaction_deferrable": "off", "transaction_deferrable": "off", "row_security": "on", "fedq.writes": "refuse"}
 # What a client hears of at the start, in PostgreSQL's spelling.
-REPORTED = ("server_version", "server_encoding", "client_encoding", "DateStyle", "TimeZone", "integer_datetimes", "standard_conforming_strings", "IntervalStyle",
+REPORTED = ("server_version", "server_encoding", "client_encoding", "DateStyle", "TimeZone", "integer_datetimes",
+            "standard_conforming_strings", "IntervalStyle",
             "application_name", "is_superuser", "default_transaction_read_only", "in_hot_standby")
 SPELLED = {it.lower(): it for it in REPORTED}
-FIXED = ("server_version", "server_version_num", "server_encoding", "integer_datetimes", "max_identifier_length", "lc_collate", "lc_ctype", "max_index_keys", "is_superuser",
+FIXED = ("server_version", "server_version_num", "server_encoding", "integer_datetimes", "max_identifier_length", "lc_collate",
+         "lc_ctype", "max_index_keys", "is_superuser",
          "in_hot_standby")
 TRUTHS = {**dict.fromkeys(("on", "true", "yes", "1"), "on"), **dict.fromkeys(("off", "false", "no", "0"), "off")}
 SWITCHES = ("standard_conforming_strings", "default_transaction_read_only", "transaction_read_only")
-SYNONYMS = {"time.zone": "timezone", "transaction.isolation.level": "transaction_isolation", "names": "client_encoding", "session.authorization": "session_authorization"}
+SYNONYMS = {"time.zone": "timezone", "transaction.isolation.level": "transaction_isolation", "names": "client_encoding",
+            "session.authorization": "session_authorization"}
 
 
 class Settings:
@@ -64,7 +70,8 @@ class Settings:
 def judged(name: str, value: str) -> str:
     """The value as it is kept. Fails with Refused where an answer would have to be another one."""
     if name == "client_encoding" and value.replace("-", "").replace("_", "").lower() not in ("utf8", "unicode", "auto"):
-        raise Refused("22023", f'invalid value for parameter "client_encoding": "{value}"', "UTF8 is the only encoding: SET client_encoding TO 'UTF8'")
+        raise Refused("22023", f'invalid value for parameter "client_encoding": "{value}"', "UTF8 is the only encoding: SET "
+                      "client_encoding TO 'UTF8'")
     if name in SWITCHES:
         if value.lower() not in TRUTHS:
             raise Refused("22023", f'parameter "{name}" is on or off')
@@ -74,7 +81,8 @@ def judged(name: str, value: str) -> str:
     if name.endswith("transaction_isolation"):
         is_weak = value.lower() in ("read committed", "read uncommitted")
         if not is_weak:
-            raise Refused("0A000", f'there is no isolation level "{value}"', "READ COMMITTED is the only one: each statement reads the tables as they are")
+            raise Refused("0A000", f'there is no isolation level "{value}"', "READ COMMITTED is the only one: each statement reads the "
+                          "tables as they are")
         return value.lower()
     if name == "fedq.writes" and value not in ("each", "refuse"):
         raise Refused("22023", "fedq.writes is 'refuse' (writes in a transaction are refused) or 'each' (each is done at once, and stays)")

@@ -1,4 +1,5 @@
-"""The statements of a client's text: where each goes, and the request line that asks it. What statements of one shape share is made once."""
+"""The statements of a client's text: where each goes, and the request line that asks it. What statements of one shape share is made
+once."""
 import re
 from typing import Dict, FrozenSet, List, Optional, Sequence, Tuple
 
@@ -8,7 +9,8 @@ from .asked import is_of_catalogue
 from .objects import Objects
 
 SESSION, CATALOGUE, COPY, ENGINE = "session", "catalogue", "copy", "engine"
-OF_SESSION: FrozenSet[str] = frozenset("begin start commit end rollback abort savepoint release set reset show discard deallocate listen unlisten".split())
+OF_SESSION: FrozenSet[str] = frozenset("begin start commit end rollback abort savepoint release set reset show discard deallocate "
+                                       "listen unlisten".split())
 WRITES = frozenset(("insert", "update", "delete"))
 CHANGES = frozenset(("create", "drop"))
 MOST_KEPT = 4096

@@ -1,5 +1,5 @@
-"""Transactions, as far as they can be had: a block reads as READ COMMITTED does, each statement the tables as they are. A write could not be taken back, so a block
-refuses it, unless fedq.writes is 'each'."""
+"""Transactions, as far as they can be had: a block reads as READ COMMITTED does, each statement the tables as they are. A write could not
+be taken back, so a block refuses it, unless fedq.writes is 'each'."""
 from typing import TYPE_CHECKING, List, Sequence
 
 from .messages import Refused, warning
@@ -37,7 +37,8 @@ class Transaction:
         """Fails with Refused where a write may not be done now."""
         settings = self.session.settings
         if self.is_read_only or self.status == IDLE and settings.get("default_transaction_read_only") == "on":
-            raise Refused("25006", "cannot write in a read-only transaction", "SET default_transaction_read_only = off, or begin one that is READ WRITE")
+            raise Refused("25006", "cannot write in a read-only transaction", "SET default_transaction_read_only = off, or begin one "
+                          "that is READ WRITE")
         if self.status == OPEN and settings.get("fedq.writes") != "each":
             from .session import AUTOCOMMIT
             raise Refused("0A000", "a write in a transaction cannot be taken back by ROLLBACK, so it is refused", AUTOCOMMIT)

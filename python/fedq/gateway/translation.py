@@ -1,11 +1,12 @@
-"""Questions to the catalogue in PostgreSQL's words, as SQLite's: casts, regular expressions, arrays, names of tables as numbers. It works on tokens, and leaves as it
-is what it does not know."""
+"""Questions to the catalogue in PostgreSQL's words, as SQLite's: casts, regular expressions, arrays, names of tables as numbers. It works
+on tokens, and leaves as it is what it does not know."""
 import json
 from typing import Callable, Dict, List, Optional, Sequence
 
 from ..sql import Token, Unsayable
 
-RENAMED = {"string_agg": "group_concat", "array_agg": "json_group_array", "json_build_object": "json_object", "strpos": "instr", "ilike": "LIKE"}
+RENAMED = {"string_agg": "group_concat", "array_agg": "json_group_array", "json_build_object": "json_object", "strpos": "instr",
+           "ilike": "LIKE"}
 BARE = {"current_user": "current_user()", "session_user": "current_user()", "user": "current_user()", "current_schema": "current_schema()",
         "current_catalog": "current_database()", "current_role": "current_user()"}
 NO_LABEL = ("integer", "text", "materialized", "not")
@@ -63,7 +64,8 @@ class Translator:
             it = word(RENAMED[value])
         elif it.kind == "word" and value in BARE and self.raw(at + 1) != "(" and not (self.result and self.result[-1].raw in (".", "as")):
             it = word(BARE[value])
-        elif it.kind == "word" and self.result and (self.result[-1].kind, self.result[-1].value) == ("word", "as") and value not in NO_LABEL:
+        elif it.kind == "word" and self.result and (self.result[-1].kind, self.result[-1].value) == ("word",
+        "as") and value not in NO_LABEL:
             it = Token("quoted", '"' + it.value + '"', it.value)
         self.result.append(it)
         return at + 1
@@ -183,8 +185,10 @@ class Translator:
 
 
 RULES: Dict[str, Callable[[Translator, int], Optional[int]]] = {
-    "pg_catalog": Translator.schema, "operator": Translator.operator, "!": Translator.no_match, "~": Translator.match, "::": Translator.cast,
-    "collate": Translator.collate, "any": Translator.any_of, "array": Translator.array, "unnest": Translator.unnest, "generate_series": Translator.series,
+    "pg_catalog": Translator.schema, "operator": Translator.operator, "!": Translator.no_match, "~": Translator.match,
+    "::": Translator.cast,
+    "collate": Translator.collate, "any": Translator.any_of, "array": Translator.array, "unnest": Translator.unnest,
+    "generate_series": Translator.series,
     "[": Translator.subscript, "substring": Translator.substring, "only": Translator.only}
 
 

@@ -38,14 +38,18 @@ def count(text: str) -> int:
 
 
 def parser() -> argparse.ArgumentParser:
-    made = argparse.ArgumentParser("fedq-gateway", usage=USAGE, description=ABOUT, epilog=MORE, allow_abbrev=False, formatter_class=argparse.RawDescriptionHelpFormatter)
+    made = argparse.ArgumentParser("fedq-gateway", usage=USAGE, description=ABOUT, epilog=MORE, allow_abbrev=False,
+                                   formatter_class=argparse.RawDescriptionHelpFormatter)
     made.add_argument("--port", type=port, metavar="P", help="the port for PostgreSQL's clients")
     made.add_argument("--host", metavar="ADDRESS", help="the address to listen on, by default 127.0.0.1; another asks for --users")
     made.add_argument("--socket", metavar="DIR", help="a folder of mode 0700 for a Unix socket: who may enter it needs no password")
-    made.add_argument("--users", metavar="FILE", help="the users and their passwords' verifiers, a file of mode 0600: SCRAM-SHA-256 is asked")
+    made.add_argument("--users", metavar="FILE", help="the users and their passwords' verifiers, a file of mode 0600: SCRAM-SHA-256 is "
+                      "asked")
     made.add_argument("--add-user", metavar="NAME", help="writes a user into the file of --users, asks for the password, and ends")
-    made.add_argument("--lines-port", type=port, metavar="P", help="the port of 127.0.0.1 for clients that speak fedq's lines, without passwords")
-    made.add_argument("--spool-bytes", type=count, metavar="N", default=SPOOL_BYTES, help="how much may wait in files for slow clients, by default 1 GiB")
+    made.add_argument("--lines-port", type=port, metavar="P", help="the port of 127.0.0.1 for clients that speak fedq's lines, without "
+                      "passwords")
+    made.add_argument("--spool-bytes", type=count, metavar="N", default=SPOOL_BYTES, help="how much may wait in files for slow clients, "
+                      "by default 1 GiB")
     made.add_argument("--cert", metavar="FILE", help="the certificate for TLS, in PEM")
     made.add_argument("--key", metavar="FILE", help="its private key, in PEM, which nobody else may read")
     made.add_argument("--verbose", action="store_true", help="writes one line for each connection that ends to standard error")
