@@ -1,5 +1,5 @@
 """Starts the program and the listeners, and ends them."""
-import argparse, asyncio, getpass, os, signal, socket, ssl, sys
+import argparse, asyncio, gc, getpass, os, signal, socket, ssl, sys
 from typing import Callable, List, Optional, Sequence
 
 from . import words as given_words
@@ -88,6 +88,8 @@ async def serve(words: argparse.Namespace) -> int:
         return engine.transport.get_returncode() or 1
     except OSError as fault:
         raise BadWords(f"cannot start {engine.command[0]}: {fault.strerror}; FEDQ_PROGRAM may name the program")
+    gc.freeze()  # (what is there now stays; a statement makes few cycles, so they are looked for seldom)
+    gc.set_threshold(50_000)
     end = asyncio.Event()
     for it in (signal.SIGINT, signal.SIGTERM):
         hub.loop.add_signal_handler(it, end.set)
