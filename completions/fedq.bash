@@ -1,4 +1,4 @@
-# Completion of bash for fedq, fedq-shell and fedq-setup: their words, and files behind NAME=, --init, --out and --check.
+# Completion of bash for fedq, fedq-shell, fedq-setup and fedq-gateway: their words, and files behind NAME=, --init, --out and --check.
 
 _fedq() {
     local current=${COMP_WORDS[COMP_CWORD]} before=${COMP_WORDS[COMP_CWORD - 1]} words
@@ -11,14 +11,15 @@ _fedq() {
         return
     fi
     case $before in
-        = | --init | --out | --file | -f | --output | -o) mapfile -t COMPREPLY < <(compgen -f -- "$current"); return ;;
+        = | --init | --out | --file | -f | --output | -o | --socket | --users | --cert | --key) mapfile -t COMPREPLY < <(compgen -f -- "$current"); return ;;
         --check) mapfile -t COMPREPLY < <(compgen -W 'csv jsonl sqlite' -- "$current"); return ;;
         --format) mapfile -t COMPREPLY < <(compgen -W 'aligned csv json' -- "$current"); return ;;
-        --csv | --jsonl | --sqlite | --list | --owner | --port | --count | --columns | --null | --members) return ;;
+        --csv | --jsonl | --sqlite | --list | --owner | --port | --count | --columns | --null | --members | --host | --add-user | --lines-port | --spool-bytes) return ;;
     esac
     case ${COMP_WORDS[0]##*/} in
         fedq-setup) words='--csv --jsonl --sqlite --out --write --write-acl --check --columns --header --null --members --help' ;;
         fedq-shell) words='--csv --jsonl --sqlite --list --init --owner --command --file --stop --user --connect --format --expanded --null --output --version --help' ;;
+        fedq-gateway) words='--port --host --socket --users --add-user --lines-port --spool-bytes --cert --key --verbose --csv --jsonl --sqlite --list --init --owner --help' ;;
         *)
             case ${COMP_WORDS[1]} in
                 run) words='--csv --jsonl --sqlite --list --init --owner --help' ;;
@@ -29,4 +30,4 @@ _fedq() {
     mapfile -t COMPREPLY < <(compgen -W "$words" -- "$current")
 }
 
-complete -o filenames -F _fedq fedq fedq-shell fedq-setup
+complete -o filenames -F _fedq fedq fedq-shell fedq-setup fedq-gateway
