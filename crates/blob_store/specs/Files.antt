@@ -211,6 +211,29 @@ pub record Keeps (old new : Drive) (draft path : List ℕ) (mark : Mark) (fault 
   pub others : (other : List ℕ) → other ≢ draft → new.at other ≡ old.at other
   pub cleared : new.at draft ≢ None → new.at draft ≢ old.at draft → old.faults + count_of fault < new.faults
 
+-- The same of a file that was seen to be open and unchanged.
+pub record PutSeen (old new : Drive) (draft path : List ℕ) (seen : Option Told) (bytes : List ℕ) (now : Mark) : Type 0 where
+  pub entry : Entry
+  pub there : new.at path ≡ Some entry
+  pub content : entry.bytes ≡ bytes
+  pub synced : entry.synced ≡ true
+  pub kind : entry.told.kind ≡ Regular
+  pub mode : IfSome seen (λ l. entry.told.mode ≡ l.mode)
+  pub stamped : IsStamped now entry.told old.faults new.faults
+  pub gone : new.at draft ≡ None
+  pub others : (other : List ℕ) → other ≢ draft → other ≢ path → new.at other ≡ old.at other
+  pub settled : new.faults ≡ old.faults → new.settled ≡ true
+
+pub record KeepsSeen (old new : Drive) (draft : List ℕ) (fault : PutFault) : Type 0 where
+  pub true_fault : fault ≢ Barred
+  pub failed : fault ≡ Failed → old.faults < new.faults
+  pub others : (other : List ℕ) → other ≢ draft → new.at other ≡ old.at other
+  pub cleared : new.at draft ≢ None → new.at draft ≢ old.at draft → old.faults + count_of fault < new.faults
+
+abbrev pub PutsSeen : Drive → Drive → List ℕ → List ℕ → Option Told → List ℕ → Result Mark PutFault → Type 0
+PutsSeen old new draft path seen bytes (Ok now) = PutSeen old new draft path seen bytes now
+PutsSeen old new draft path seen bytes (Err fault) = KeepsSeen old new draft fault
+
 abbrev pub PutsOrNot : Drive → Drive → List ℕ → List ℕ → Mark → List ℕ → Result Mark PutFault → Type 0
 PutsOrNot old new draft path mark bytes (Ok now) = ReplacesWhole old new draft path mark bytes now
 PutsOrNot old new draft path mark bytes (Err fault) = Keeps old new draft path mark fault

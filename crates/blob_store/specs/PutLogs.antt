@@ -142,6 +142,20 @@ pub record NotPutHeld (old new : List Call) (draft : List ℕ) (fault : PutFault
   pub due : IsPutDue old new fault
   pub cleared : IsCleared new draft
 
+-- the draft is made and takes the place of a file that was looked over
+pub record StartedAndLanded (old new : List Call) (draft path bytes : List ℕ) (seen : Option Told) (now : Mark) : Type 0 where
+  pub started : List Call
+  pub probed : probed started ≡ probed old
+  pub asked : asked_mode started ≡ Some (first_mode seen)
+  pub empty : written started ≡ []
+  pub rights : HasRights started seen
+  pub renames : renames started ≡ renames old
+  pub lands : LandedBy started new draft path bytes seen now
+
+abbrev pub PutsSeenBy : List Call → List Call → List ℕ → List ℕ → List ℕ → Option Told → Result Mark PutFault → Type 0
+PutsSeenBy old new draft path bytes seen (Ok now) = StartedAndLanded old new draft path bytes seen now
+PutsSeenBy old new draft path bytes seen (Err fault) = NotPutHeld old new draft fault
+
 abbrev pub PutsHeld : List Call → List Call → List ℕ → List ℕ → List ℕ → Mark → Result Mark PutFault → Type 0
 PutsHeld old new draft path bytes mark (Ok now) = PutBy old new draft path bytes mark now
 PutsHeld old new draft path bytes mark (Err fault) = NotPutHeld old new draft fault

@@ -72,7 +72,12 @@ fn see_regular<D: Disk>(disk: &mut D, path: &str, told: Told) -> Result<(), Disk
 }
 
 // Reads the file that is open, and sees that it is a regular one. None where it changed meanwhile.
-fn read_open<D: Disk>(disk: &mut D, alloc: Global, path: &str, most: u64) -> Result<Option<Found>, DiskFault>
+fn read_open<D: Disk>(
+    disk: &mut D,
+    alloc: Global,
+    path: &str,
+    most: u64,
+) -> Result<Option<Found>, DiskFault>
     requires there { Sure (D.drive disk.old) (λ d. told_at d path.now ≢ None) }
     requires opened { Sure (D.log disk.old) (λ log. IsOpened log path.now) }
     ensures drive { KnownBoth (D.drive disk.old) (D.drive disk.new) (λ old new. TriesFile old new path.now most result) }
@@ -91,7 +96,12 @@ fn read_open<D: Disk>(disk: &mut D, alloc: Global, path: &str, most: u64) -> Res
 }
 
 // Opens a file, reads it and closes it. None where it changed meanwhile.
-fn read_once<D: Disk>(disk: &mut D, alloc: Global, path: &str, most: u64) -> Result<Option<Found>, DiskFault>
+fn read_once<D: Disk>(
+    disk: &mut D,
+    alloc: Global,
+    path: &str,
+    most: u64,
+) -> Result<Option<Found>, DiskFault>
     requires { Sure (D.drive disk.old) (λ d. told_at d path.now ≢ None) }
     ensures drive { KnownBoth (D.drive disk.old) (D.drive disk.new) (λ old new. TriesFile old new path.now most result) }
     ensures log { KnownBoth (D.log disk.old) (D.log disk.new) (λ old new. TriesBy 1 old new path.now most result) }
@@ -106,7 +116,12 @@ fn read_once<D: Disk>(disk: &mut D, alloc: Global, path: &str, most: u64) -> Res
 }
 
 // Reads a file in at most three tries.
-fn read_tries<D: Disk>(disk: &mut D, alloc: Global, path: &str, most: u64) -> Result<Found, DiskFault>
+fn read_tries<D: Disk>(
+    disk: &mut D,
+    alloc: Global,
+    path: &str,
+    most: u64,
+) -> Result<Found, DiskFault>
     requires { Sure (D.drive disk.old) (λ d. told_at d path.now ≢ None) }
     ensures drive { KnownBoth (D.drive disk.old) (D.drive disk.new) (λ old new. FindsThere old new path.now most result) }
     ensures log { KnownBoth (D.log disk.old) (D.log disk.new) (λ old new. ReadsThere old new path.now most result) }
@@ -128,7 +143,12 @@ fn read_tries<D: Disk>(disk: &mut D, alloc: Global, path: &str, most: u64) -> Re
 ///
 /// [`DiskFault::Failed`] where it is no regular file, where it changed during each read, and where a call failed; and
 /// [`DiskFault::NoMemory`] where memory was refused.
-pub fn read_file<D: Disk>(disk: &mut D, alloc: Global, path: &str, most: u64) -> Result<Option<Found>, DiskFault>
+pub fn read_file<D: Disk>(
+    disk: &mut D,
+    alloc: Global,
+    path: &str,
+    most: u64,
+) -> Result<Option<Found>, DiskFault>
     ensures drive { KnownBoth (D.drive disk.old) (D.drive disk.new) (λ old new. ReadsFile old new path.now most result) }
     ensures log { KnownBoth (D.log disk.old) (D.log disk.new) (λ old new. ReadsBy old new path.now most result) }
 {

@@ -4,10 +4,10 @@ ghost use Rattle.blob_store.specs.Shelves.{joined};
 ghost use Rattle.blob_store.specs.Known.{KnownBoth, Sure};
 ghost use Rattle.blob_store.specs.Drives.{IsDraft, IsIn, IsInHeld, Writes, told_at};
 ghost use Rattle.blob_store.specs.Files.{Holds, SeesDraft, Sees, IsReady, FillsOrNot, WritesDraft, TellsMark, put_fault, MayBeWritten, IsUnchanged, LooksOver};
-ghost use Rattle.blob_store.specs.Files.{IsOwnLook, GivesOrNot, GivesTo, GivesMode, DropsAt, ClearsPlace, Settles, Starts, Lands, PutsOrNot, PutsAll};
+ghost use Rattle.blob_store.specs.Files.{IsOwnLook, GivesOrNot, GivesTo, GivesMode, DropsAt, ClearsPlace, Settles, Starts, Lands, PutsSeen, PutsOrNot, PutsAll};
 ghost use Rattle.blob_store.specs.Logs.{Answers, HoldsOrNot, KeepsDraft, IsQuiet, IsDue, GivesRights, DropsDraft, StartsOrNot, WritesOrNot, SyncsOrNot, IsSameLook};
 ghost use Rattle.blob_store.specs.Logs.{holds_lock, draft_left, GivesPart, CanMake, ClearsBy};
-ghost use Rattle.blob_store.specs.PutLogs.{LooksOverOrNot, SeesOwnOrNot, SeesAgain, FillsBy, Tells, EndsBy, LandsBy, PutsHeld, PutsBy, PutsReleased};
+ghost use Rattle.blob_store.specs.PutLogs.{LooksOverOrNot, SeesOwnOrNot, SeesAgain, FillsBy, Tells, EndsBy, LandsBy, PutsSeenBy, PutsHeld, PutsBy, PutsReleased};
 
 use crate::disk::{Disk, DiskFault, Kind, LockTry, Told};
 use crate::marks::Mark;
@@ -363,6 +363,32 @@ fn land<D: Disk>(
     }
 }
 
+// Makes the draft, and puts the bytes of these pieces in the place of a file that was looked over.
+#[tactic(auto, using(crate::proofs::StepLaws::keeps_unstarted, crate::proofs::StepLaws::unstarted_by))]
+fn put_seen<D: Disk>(
+    disk: &mut D,
+    draft: &str,
+    path: &str,
+    seen: Option<Told>,
+    pieces: &[&[u8]],
+    locked: bool,
+) -> Result<Mark, PutFault>
+    requires locked { Sure (D.drive disk.old) (λ d. d.locked ≡ locked) }
+    requires draft_in { Sure (D.drive disk.old) (λ d. IsInHeld d draft.now) }
+    requires path_in { Sure (D.drive disk.old) (λ d. IsInHeld d path.now) }
+    requires seen { Sure (D.drive disk.old) (λ d. told_at d path.now ≡ seen) }
+    requires apart { draft.now ≢ path.now }
+    requires lock { Sure (D.log disk.old) (λ log. holds_lock log ≡ locked) }
+    requires none { Sure (D.log disk.old) (λ log. draft_left log ≡ false) }
+    ensures drive { KnownBoth (D.drive disk.old) (D.drive disk.new)
+        (λ old new. PutsSeen old new draft.now path.now seen (joined pieces.now) result) }
+    ensures log { KnownBoth (D.log disk.old) (D.log disk.new)
+        (λ old new. PutsSeenBy old new draft.now path.now (joined pieces.now) seen result) }
+{
+    start_draft(disk, draft, seen, locked)?;
+    land(disk, draft, path, pieces, seen, locked)
+}
+
 // Puts the bytes of these pieces in the place of a file of the folder that is held.
 fn put_held<D: Disk>(
     disk: &mut D,
@@ -384,8 +410,7 @@ fn put_held<D: Disk>(
         (λ old new. PutsHeld old new draft.now path.now (joined pieces.now) mark result) }
 {
     let seen = look_over(disk, path, mark)?;
-    start_draft(disk, draft, seen, locked)?;
-    land(disk, draft, path, pieces, seen, locked)
+    put_seen(disk, draft, path, seen, pieces, locked)
 }
 
 // Holds a folder, and puts the bytes of these pieces in the place of a file of it.

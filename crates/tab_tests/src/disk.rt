@@ -277,11 +277,18 @@ impl Disk for MemoryDisk {
         let Some(stored) = self.files.get(path) else {
             return Err(DiskFault::NoMemory);
         };
-        let told = Told { mode, ..stored.told };
+        let told = Told {
+            mode,
+            ..stored.told
+        };
         let Ok(bytes) = Vec::from_slice(self.alloc, &stored.bytes) else {
             return Err(DiskFault::NoMemory);
         };
-        let stored = Stored { told, bytes, synced: stored.synced };
+        let stored = Stored {
+            told,
+            bytes,
+            synced: stored.synced,
+        };
         match self.files.put(self.alloc, path, stored) {
             Ok(()) => Ok(()),
             Err(_) => Err(DiskFault::NoMemory),
@@ -295,11 +302,18 @@ impl Disk for MemoryDisk {
         let Some(stored) = self.files.get(path) else {
             return Err(DiskFault::NoMemory);
         };
-        let told = Told { group, ..stored.told };
+        let told = Told {
+            group,
+            ..stored.told
+        };
         let Ok(bytes) = Vec::from_slice(self.alloc, &stored.bytes) else {
             return Err(DiskFault::NoMemory);
         };
-        let stored = Stored { told, bytes, synced: stored.synced };
+        let stored = Stored {
+            told,
+            bytes,
+            synced: stored.synced,
+        };
         match self.files.put(self.alloc, path, stored) {
             Ok(()) => Ok(()),
             Err(_) => Err(DiskFault::NoMemory),

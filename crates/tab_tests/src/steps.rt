@@ -51,7 +51,10 @@ fn check(alloc: Global, has_locks: bool, passes: u64, calls: u64) -> Result<(), 
         Err(fault) => fault == PutFault::Failed && is_as_before(&disk) && passes < needed,
         Ok(_) => is_file(&disk, "d/a", 0o640, b"new a") && is_beside(&disk) && passes >= needed,
     };
-    if is_right && is_settled == (passes >= needed && passes != calls.saturating_sub(1)) && faults == u64::from(passes < calls) {
+    if is_right
+        && is_settled == (passes >= needed && passes != calls.saturating_sub(1))
+        && faults == u64::from(passes < calls)
+    {
         return Ok(());
     }
     Err(format!(in alloc; "{passes} calls passed: {answer:?}")?)?
