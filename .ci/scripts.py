@@ -8,7 +8,7 @@ from concurrent.futures import ThreadPoolExecutor
 
 # The longest first: that of folders waits for the disk.
 TESTS = """folders refused_memory like_sqlite run limits soak shell driver pages cut_streams setup schemas launcher random_files exchanged random_selects install
-    hostile_names tried connections random_objects random_writes leaving random_cursors"""
+    hostile_names replaced tried connections random_objects random_writes leaving random_cursors"""
 SCRIPTS = [*(f"tests/{it}" for it in TESTS.split()), "examples/run", "docs/draw"]
 SECONDS = 3600  # after which a script has failed
 
