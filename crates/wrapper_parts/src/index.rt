@@ -99,6 +99,16 @@ impl PlaceIndex {
         Ok(())
     }
 
+    /// How many integers and texts it has. The scans by it are right whatever this says: it tells which of two indexes leads to fewer places.
+    pub fn distinct(&self) -> usize {
+        self.firsts.whole.len().saturating_add(self.firsts.texts.len())
+    }
+
+    /// Whether a value has two places at most, taken over all.
+    pub fn is_sharp(&self) -> bool {
+        self.next.len() / 2 <= self.distinct()
+    }
+
     /// The first place, from a place on, of a cell that is equal to the value, and the number of cells where there is none.
     ///
     /// The place is 0, or the cell before it is equal to the value. It takes no memory, and looks at one cell alone.
