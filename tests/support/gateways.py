@@ -68,7 +68,8 @@ class Gateway:
     def __init__(self, program: str, *words: str, users: Optional[Dict[str, str]] = None, middle: int = 1000, large: int = 2000,
                  waits: bool = True) -> None:
         self.room = tempfile.TemporaryDirectory(prefix="fedq-gateway-")
-        self.folder, self.port = pathlib.Path(self.room.name), free_port()
+        self.folder, self.port, self.lines_port, self.program = pathlib.Path(self.room.name), free_port(), 0, program
+        (self.folder / "sockets").mkdir(mode=0o700)
         sources(self.folder, middle, large)
         given = [*command(), "--port", str(self.port), *words]
         if users is not None:

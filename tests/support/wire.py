@@ -166,7 +166,7 @@ class Client:
         else:
             self.socket = socket.create_connection(("127.0.0.1", port), seconds)
             self.socket.setsockopt(socket.IPPROTO_TCP, socket.TCP_NODELAY, 1)
-        self.rest, self.settings, self.key = b"", {}, (0, 0)  # type: bytes, Dict[str, str], Tuple[int, int]
+        self.rest, self.at, self.settings, self.key = b"", 0, {}, (0, 0)  # type: bytes, int, Dict[str, str], Tuple[int, int]
         self.port, self.password, self.user = port, password, user
         if begins:
             try:
@@ -197,13 +197,18 @@ class Client:
 
     def take(self, count: int) -> bytes:
         """The next bytes. Fails with ConnectionError where the server has closed."""
-        while len(self.rest) < count:
+        while len(self.rest) - self.at < count:
             data = self.socket.recv(1 << 20)
             if not data:
                 raise ConnectionError("the server closed the connection")
-            self.rest += data
-        made, self.rest = self.rest[:count], self.rest[count:]
-        return made
+            self.rest, self.at = self.rest[self.at :] + data, 0
+        self.at += count
+        return self.rest[self.at - count : self.at]
+
+    @property
+    def has_more(self) -> bool:
+        """Whether bytes were received that are not read yet."""
+        return self.at < len(self.rest)
 
     def read(self) -> Tuple[bytes, bytes]:
         """The next message: its kind and its body."""
