@@ -28,7 +28,9 @@ def ended(script, program):
         passed, failed, lines = 0, 1, [f"it had not ended after {SECONDS} seconds"]
     except (ValueError, TypeError):
         passed, failed, lines = 0, 1, [f"it ended with status {ran.returncode} and no count of tests: {ran.stdout[-2000:]}"]
-    return passed, failed, "\n".join([f"{script}: {passed} passed, {failed} failed", *lines])
+    # (on the line of the count: what was not tried is not to be taken as passed)
+    left_out = [it for it in lines if it.startswith("not installed: ")]
+    return passed, failed, "\n".join(["; ".join([f"{script}: {passed} passed, {failed} failed", *left_out]), *(it for it in lines if it not in left_out)])
 
 def over(program, scripts=(*LONG, *SCRIPTS)):
     """Runs all scripts over a program, as many at a time as there are processors and two more, since the first waits for the disk and others for a while, and
