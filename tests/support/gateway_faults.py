@@ -1,12 +1,13 @@
 """Clients that break off, lie or ask for too much, and an engine that is killed: nobody else is disturbed, nothing stays held, and nothing hangs."""
-import os, pathlib, random, re, signal, socket, stat, struct, subprocess, threading, time
+import random, socket, struct, threading, time
 from typing import Any, Callable, Dict, Iterator, List, Optional, Tuple
 
 from support.cases import Case, Cases, refused
 from support.gateway_crowd import crowd
-from support.gateway_protocol import PARTS, writes_within
-from support.gateways import INIT, WORDS, Gateway, command, free_port
-from support.wire import FLUSH, SYNC, Answer, Client, bind, describe, execute, message, parse, startup, text, verifier
+from support.gateway_protocol import writes_within
+from support.gateway_words import passwords, small, tls, with_ports, with_tls, with_users, words
+from support.gateways import Gateway
+from support.wire import FLUSH, SYNC, Answer, Client, bind, describe, execute, message, parse, startup, text
 
 SLOW = "SELECT count(*) FROM mid a, mid b WHERE a.id + b.id = 5"
 # (more rows than the gateway's and the system's buffers hold: some 20 MB)
@@ -454,140 +455,7 @@ def cancelled(gateway: Gateway) -> Iterator[Case]:
         three.key = stranger
 
 
-# Passwords
-
-
-def passwords(gateway: Gateway) -> Iterator[Case]:
-    """SCRAM-SHA-256: right and wrong passwords, unknown users, exchanges that are not whole."""
-    with gateway.connect("admin", password="secret") as it:
-        yield "the right password", it.query("SELECT current_user").texts, [("admin",)]
-    with gateway.connect("ann", password="päss wörd,=") as it:
-        yield "a password of other letters", it.query("SELECT current_user").texts, [("ann",)]
-    for user, password in [("admin", "Secret"), ("admin", ""), ("admin", "secret "), ("ann", "secret"), ("nobody", "secret"), ("", ""), ("Bob", "x")]:
-        yield f"{user!r} by {password!r}", refused(lambda user=user, password=password: gateway.connect(user, password=password)) in ("28P01", "28000"), True
-    first = b"n,,n=,r=abcdefghijklmnop"
-    whole = b"SCRAM-SHA-256\0" + struct.pack("!I", len(first)) + first
-    for what, data in [
-        ("a password in plain", [text("secret")]), ("another mechanism", [b"SCRAM-SHA-1\0" + whole[14:]]), ("channel binding without TLS", [whole.replace(b"n,,", b"p=tls-unique,,")]),
-        ("no nonce", [b"SCRAM-SHA-256\0" + struct.pack("!I", 6) + b"n,,n=,"]), ("a length that is wrong", [whole[:14] + struct.pack("!i", -1)]),
-        ("an empty proof", [whole, b"c=biws,r=abcdefghijklmnop,p="]), ("no proof", [whole, b"c=biws"]), ("bytes", [b"\xff\xfe\0\0"]), ("bytes later", [whole, b"\xff\xfe"]),
-    ]:
-        yield what, exchange(gateway, data), True
-    with Client(gateway.port, begins=False) as it:
-        it.send(startup("admin"))
-        it.read()
-        it.send(message(b"Q", text("SELECT 1")))
-        kind, body = it.read()
-        yield "a query in place of a password", (kind, b"C28" in body or b"C08P01" in body), (b"E", True)
-    with gateway.connect("admin", password="secret") as it:
-        yield "the next client", it.query("SELECT 1").texts, [("1",)]
-
-
-def exchange(gateway: Gateway, answers: List[bytes]) -> bool:
-    """Whether these answers are refused with 28P01, 28000 or 08P01."""
-    with Client(gateway.port, begins=False) as it:
-        it.send(startup("admin"))
-        it.read()
-        for data in answers:
-            it.send(message(b"p", data))
-            kind, body = it.read()
-        return kind == b"E" and any(code in body for code in (b"C28P01\0", b"C28000\0", b"C08P01\0"))
-
-
-# Words and files
-
-
-def started(program: str, folder: pathlib.Path, *words: str) -> Tuple[Optional[int], str]:
-    """How a gateway with these words ends within 10 seconds: its exit status and standard error."""
-    env = {**os.environ, "FEDQ_PROGRAM": program}
-    made = subprocess.Popen([*command(), *words], cwd=folder, env=env, stdin=subprocess.DEVNULL, stdout=subprocess.DEVNULL, stderr=subprocess.PIPE, text=True)
-    try:
-        _, errors = made.communicate(timeout=10)
-    except subprocess.TimeoutExpired:
-        made.terminate()
-        return None, made.communicate()[1]
-    return made.returncode, errors
-
-
-def words(gateway: Gateway) -> Iterator[Case]:
-    """What does not start: the status is not 0, and standard error is a sentence, no traceback."""
-    program, folder = os.path.abspath(gateway.program), gateway.folder
-    (folder / "open").mkdir()
-    (folder / "open").chmod(0o755)
-    (folder / "open_users").write_text(f"admin:{verifier('x')}\n", encoding="utf-8")
-    (folder / "open_users").chmod(0o644)
-    (folder / "bad_users").write_text("admin\n", encoding="utf-8")
-    (folder / "bad_users").chmod(0o600)
-    (folder / "bad.sql").write_text("CREATE FOREIGN DATA WRAPPER csv HANDLER nope\n", encoding="utf-8")
-    port = ["--port", str(free_port())]
-    cases = {
-        "a port in use": ["--port", str(gateway.port), "--list", "demo"], "a port that is none": ["--port", "70000", "--list", "demo"],
-        "users that others may read": [*port, "--users", "open_users", "--list", "demo"], "no file of users": [*port, "--users", "none", "--list", "demo"],
-        "a file of users that is none": [*port, "--users", "bad_users", "--list", "demo"], "a folder that others may enter": [*port, "--socket", "open", "--list", "demo"],
-        "no folder for the socket": [*port, "--socket", "none", "--list", "demo"], "no init file": [*port, "--list", "demo", "--init", "none"],
-        "an init file that is refused": [*port, "--list", "demo", "--init", "bad.sql"], "an unknown word": [*port, "--nope"],
-        "a source that is not there": [*port, "--csv", "files"],
-    }
-    for name, given in cases.items():
-        status, errors = started(program, folder, *given)
-        yield f"{name}: does not start", status not in (None, 0), True
-        yield f"{name}: a sentence, no traceback", errors.strip() != "" and "Traceback" not in errors and "fedq" in errors, True
-    yield "without --users a warning", "warning" in gateway.said().lower(), True
-    mode = stat.S_IMODE(os.stat(gateway.folder / "sockets").st_mode)
-    yield "the folder of the socket keeps its mode", mode, 0o700
-    with Client(gateway.port, "admin", folder=str(gateway.folder / "sockets")) as it:
-        yield "by the socket", it.query("SELECT id FROM parts WHERE id = 1").texts, [("1",)]
-    yield from lines_port(gateway)
-
-
-def lines_port(gateway: Gateway) -> Iterator[Case]:
-    """The port of lines: each connection is a session."""
-    with socket.create_connection(("127.0.0.1", gateway.lines_port), 10) as it:
-        it.sendall(b"OPEN ann\nQ SELECT id FROM parts WHERE id = 1\nBYE\n")
-        found = b""
-        while found.count(b"\n") < 5:
-            data = it.recv(4096)
-            if not data:
-                break
-            found += data
-    yield "the port of lines", re.sub(rb"(?m)^[0-9]+ ", b"", found), b"T OPEN\nH\tid\nR\t1\nT SELECT 1\nT BYE\n"
-
-
-def ends(program: str) -> Iterator[Case]:
-    """SIGTERM and SIGINT end the gateway and its engine, with status 0 and no traceback, also while clients are at work."""
-    for number in (signal.SIGTERM, signal.SIGINT):
-        gateway = small(program)
-        try:
-            with gateway.connect() as it, gateway.connect() as busy:
-                busy.send(message(b"Q", text(SLOW)))
-                it.query(CURSOR)
-                engine = gateway.engine()
-                os.kill(gateway.process.pid, number)
-                status = gateway.process.wait(10)
-                time.sleep(0.1)
-                yield f"{number.name}: status", status in (0, -number, 128 + number), True
-                yield f"{number.name}: its engine has ended", os.path.exists(f"/proc/{engine}") and b"Z" not in pathlib.Path(f"/proc/{engine}/stat").read_bytes()[:60], False
-                yield f"{number.name}: no traceback", gateway.faults(), []
-        finally:
-            gateway.close()
-
-
-def with_ports(program: str) -> Gateway:
-    """A gateway with a port of lines and a socket."""
-    port = free_port()
-    made = Gateway(program, "--lines-port", str(port), "--socket", "sockets")
-    made.lines_port = port
-    return made
-
-
-def with_users(program: str) -> Gateway:
-    """A gateway that asks for passwords."""
-    return Gateway(program, users={"admin": "secret", "ann": "päss wörd,="})
-
-
-def small(program: str, *words: str) -> Gateway:
-    """A gateway over smaller tables, whose slow statements take a tenth of a second."""
-    return Gateway(program, *words, middle=300)
+# The groups, each over a gateway of its own
 
 
 def with_spool(program: str) -> Gateway:
@@ -596,7 +464,7 @@ def with_spool(program: str) -> Gateway:
 
 
 Group = Tuple[Callable[[str], Gateway], List[Cases]]
-QUICK: List[Group] = [(with_users, [passwords]), (small, [random_messages(200), crowd(20, 10)]), (with_ports, [words])]
+QUICK: List[Group] = [(with_users, [passwords]), (small, [random_messages(200), crowd(20, 10)]), (with_ports, [words]), (with_tls, [tls])]
 LONG: List[Group] = [
     (small, [crowd(200, 40)]), (small, [cut_off]), (small, [killed]), (small, [killed_often]), (small, [stalled]), (with_spool, [spooled]), (Gateway, [cancelled]), (small, [hostile]),
     (small, [random_messages(5000, seed=2)]),

@@ -66,11 +66,15 @@ class Gateway:
     """A gateway that serves at `port` until it is closed. Its standard output and error go to files, which `said` reads."""
 
     def __init__(self, program: str, *words: str, users: Optional[Dict[str, str]] = None, middle: int = 1000, large: int = 2000,
-                 waits: bool = True) -> None:
+                 waits: bool = True, makes_certificate: bool = False) -> None:
         self.room = tempfile.TemporaryDirectory(prefix="fedq-gateway-")
         self.folder, self.port, self.lines_port, self.program = pathlib.Path(self.room.name), free_port(), 0, program
         (self.folder / "sockets").mkdir(mode=0o700)
         sources(self.folder, middle, large)
+        if makes_certificate:
+            words_of_openssl = "req -x509 -newkey rsa:2048 -nodes -days 2 -keyout key.pem -out cert.pem -subj /CN=localhost -addext subjectAltName=DNS:localhost"
+            subprocess.run(["openssl", *words_of_openssl.split()], cwd=self.folder, check=True, stderr=subprocess.DEVNULL)
+            (self.folder / "key.pem").chmod(0o600)
         given = [*command(), "--port", str(self.port), *words]
         if users is not None:
             file = self.folder / "users"
