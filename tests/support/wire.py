@@ -267,6 +267,18 @@ class Client:
             made.take(*self.read())
         return made
 
+    def raw(self) -> bytes:
+        """All bytes up to ReadyForQuery, as they come: for large answers. No message may be half read before."""
+        made = [self.rest[self.at :]]
+        self.rest, self.at, last = b"", 0, made[0][-6:]
+        while last != b"Z\0\0\0\5I":
+            data = self.socket.recv(1 << 20)
+            if not data:
+                raise ConnectionError("the server closed the connection")
+            made.append(data)
+            last = (last + data[-6:])[-6:]
+        return b"".join(made)
+
     def query(self, sql: str) -> Answer:
         """The answer to a simple query."""
         self.send(message(b"Q", text(sql)))
