@@ -410,7 +410,7 @@ def spooled(gateway: Gateway) -> Iterator[Case]:
 def ends_with_error(data: bytes, code: str) -> bool:
     """Whether an answer ends with an error of this code and ReadyForQuery."""
     at = data.rfind(b"SERROR\0")
-    return at > 5 and code in fields_of(data[at:-6]).values() and data[at - 5 : at] == b"E" + struct.pack("!I", len(data) - 6 - at + 4)
+    return at >= 5 and code in fields_of(data[at:-6]).values() and data[at - 5 : at] == b"E" + struct.pack("!I", len(data) - 6 - at + 4)
 
 
 def cancelled(gateway: Gateway) -> Iterator[Case]:
