@@ -46,7 +46,11 @@ class Member:
         """Two rows more."""
         numbers = self.pick.sample([it for it in range(self.first, self.first + OWN) if it not in self.rows], 2)
         new = {no: (str(self.pick.randrange(-9, 9)), str(self.pick.randrange(1 << 40))) for no in numbers}
-        self.write("INSERT INTO orders VALUES " + ", ".join(f"({no}, {part}, {n})" for no, (part, n) in new.items()), "INSERT 0 2", {**self.rows, **new})
+        self.write(
+            "INSERT INTO orders VALUES " + ", ".join(f"({no}, {part}, {n})" for no, (part, n) in new.items()),
+            "INSERT 0 2",
+            {**self.rows, **new},
+        )
 
     def update(self) -> None:
         """Another number in the rows of one part."""
@@ -64,14 +68,23 @@ class Member:
     def read(self) -> None:
         """All its rows, by either protocol."""
         sql = f"SELECT no, part, n FROM orders WHERE {self.own()} ORDER BY no"
-        found = self.client.query(sql) if self.pick.random() < 0.5 else self.client.prepared(
-            "SELECT no, part, n FROM orders WHERE no >= $1 AND no < $2 ORDER BY no", [b"%d" % self.first, b"%d" % (self.first + OWN)])
+        found = (
+            self.client.query(sql)
+            if self.pick.random() < 0.5
+            else self.client.prepared(
+                "SELECT no, part, n FROM orders WHERE no >= $1 AND no < $2 ORDER BY no", [b"%d" % self.first, b"%d" % (self.first + OWN)]
+            )
+        )
         self.check("its rows", found.texts, self.listed())
 
     def cursor(self) -> None:
         """Its rows once more, or those of a file, by a cursor in pieces."""
         is_own = self.pick.random() < 0.1
-        query = f"SELECT no, part, n FROM orders WHERE {self.own()} ORDER BY no" if is_own else "SELECT id, grp FROM mid WHERE id < 50 ORDER BY id"
+        query = (
+            f"SELECT no, part, n FROM orders WHERE {self.own()} ORDER BY no"
+            if is_own
+            else "SELECT id, grp FROM mid WHERE id < 50 ORDER BY id"
+        )
         self.check("DECLARE", self.client.query(f"DECLARE c CURSOR FOR {query}").tags, ["DECLARE CURSOR"])
         if is_own:
             self.check("a write under its cursor", self.client.query(f"DELETE FROM orders WHERE {self.own()}").code, "55006")

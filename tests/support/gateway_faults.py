@@ -1,4 +1,5 @@
-"""Clients that break off, lie or ask for too much, and an engine that is killed: nobody else is disturbed, nothing stays held, and nothing hangs."""
+"""Clients that break off, lie or ask for too much, and an engine that is killed: nobody else is disturbed, nothing stays held, and nothing
+hangs."""
 import random, socket, struct, threading, time
 from typing import Any, Callable, Dict, Iterator, List, Optional, Tuple
 
@@ -19,7 +20,12 @@ class Others:
     """A client that asks a short query again and again beside something else; `longest` is the longest time that it waited, in seconds."""
 
     def __init__(self, gateway: Gateway) -> None:
-        self.client, self.times, self.wrong, self.ends = gateway.connect("other"), [], [], False  # type: Client, List[float], List[str], bool
+        self.client, self.times, self.wrong, self.ends = (
+            gateway.connect("other"),
+            [],
+            [],
+            False,
+        )  # type: Client, List[float], List[str], bool
         self.thread = threading.Thread(target=self.ask)
 
     def ask(self) -> None:
@@ -103,7 +109,9 @@ STATES: Dict[str, Callable[[Gateway], Client]] = {
     "with a cursor in a transaction": asked("BEGIN", CURSOR),
     "with a cursor, in a failed message": lambda gateway: begun(gateway, message(b"Q", text(CURSOR)) + bind(name="none") + FLUSH, 3),
     "with a statement at work": lambda gateway: begun(gateway, message(b"Q", text(CURSOR)) + message(b"Q", text(SLOW)), 2),
-    "with nine statements": lambda gateway: begun(gateway, (message(b"Q", text("SELECT no FROM orders"))) * 9 + message(b"Q", text(CURSOR))),
+    "with nine statements": lambda gateway: begun(
+        gateway, (message(b"Q", text("SELECT no FROM orders"))) * 9 + message(b"Q", text(CURSOR))
+    ),
 }
 
 
@@ -128,7 +136,10 @@ def cut_off(gateway: Gateway) -> Iterator[Case]:
                 done = writes_within(other, WRITE, 1.0 + 3 * slow)
                 most = 1.0 + (3 * slow if "work" in name or "large" in name or "COPY" in name else 0)
                 took = time.monotonic() - begin
-                yield f"{name}, by {'RST' if resets else 'FIN'}: a write within {most:.1f} s", (done, took < most or round(took, 1)), (True, True)
+                yield f"{name}, by {'RST' if resets else 'FIN'}: a write within {most:.1f} s", (done, took < most or round(took, 1)), (
+                    True,
+                    True,
+                )
         yield "sessions are free", all_sessions(gateway, 1), ("", "53300", "")
 
 
@@ -187,10 +198,12 @@ def killed_states() -> Dict[str, Tuple[Callable[[Gateway], Client], bool]]:
 
 
 def killed(gateway: Gateway) -> Iterator[Case]:
-    """The engine is killed in each state: who was at work is answered 57P01, everybody's next statement is answered, and objects made since the start stay."""
+    """The engine is killed in each state: who was at work is answered 57P01, everybody's next statement is answered, objects made stay."""
     (gateway.folder / "files/more.csv").write_text("n\n7\n", encoding="utf-8")
     with gateway.connect() as owner, gateway.connect("ann") as ann:
-        yield "an object", owner.query("CREATE FOREIGN TABLE more (n integer) SERVER files OPTIONS (filename 'more.csv', header 'true')").code, ""
+        yield "an object", owner.query(
+            "CREATE FOREIGN TABLE more (n integer) SERVER files OPTIONS (filename 'more.csv', header 'true')"
+        ).code, ""
         yield "an object less", owner.query("DROP FOREIGN TABLE big").code, ""
         for name, (starts, is_at_work) in killed_states().items():
             with starts(gateway) as it:
@@ -227,16 +240,63 @@ def killed_often(gateway: Gateway) -> Iterator[Case]:
 
 LETTERS = b"QPBDECSHXFfdcp"
 PIECES = [
-    b"\0", b"SELECT 1\0", b"a\0", b"\0\1", b"\0\2", b"\xff\xff\xff\xff", b"S", b"P", b"\0\0", b"\0\0\0\x14", b"SELECT $1, $2\0", b"FETCH 3 FROM c\0", b"BEGIN\0",
-    b"COPY parts TO STDOUT\0", b"SELECT relname FROM pg_class WHERE oid = ANY('{1}'::int[])\0", b"DECLARE c CURSOR FOR SELECT id FROM parts\0", b"\xff",
-    b"SELECT ';\0", b"/* \0", b"select [[[ from pg_class\0", b"SET\0", b"SHOW\0", b"FETCH\0", b"COPY\0", b"COPY (\0", b"SELECT\0", b"SELECT * FROM\0",
-    b"ROLLBACK\0", b"SELECT 1::\0 pg_x", b"select array( from pg_class\0", b"= any from pg_a\0", b"select pg_class :: regclass :: x ( from pg_class\0",
-    b"DEALLOCATE\0", b"SAVEPOINT\0", b"CLOSE ALL\0", b"CLOSE\0", b"SELECT U&'\\0041'\0", b"SELECT E'\\", b"$$", b"SET a =\0", b"SHOW ALL\0", b"DISCARD ALL\0",
+    b"\0",
+    b"SELECT 1\0",
+    b"a\0",
+    b"\0\1",
+    b"\0\2",
+    b"\xff\xff\xff\xff",
+    b"S",
+    b"P",
+    b"\0\0",
+    b"\0\0\0\x14",
+    b"SELECT $1, $2\0",
+    b"FETCH 3 FROM c\0",
+    b"BEGIN\0",
+    b"COPY parts TO STDOUT\0",
+    b"SELECT relname FROM pg_class WHERE oid = ANY('{1}'::int[])\0",
+    b"DECLARE c CURSOR FOR SELECT id FROM parts\0",
+    b"\xff",
+    b"SELECT ';\0",
+    b"/* \0",
+    b"select [[[ from pg_class\0",
+    b"SET\0",
+    b"SHOW\0",
+    b"FETCH\0",
+    b"COPY\0",
+    b"COPY (\0",
+    b"SELECT\0",
+    b"SELECT * FROM\0",
+    b"ROLLBACK\0",
+    b"SELECT 1::\0 pg_x",
+    b"select array( from pg_class\0",
+    b"= any from pg_a\0",
+    b"select pg_class :: regclass :: x ( from pg_class\0",
+    b"DEALLOCATE\0",
+    b"SAVEPOINT\0",
+    b"CLOSE ALL\0",
+    b"CLOSE\0",
+    b"SELECT U&'\\0041'\0",
+    b"SELECT E'\\",
+    b"$$",
+    b"SET a =\0",
+    b"SHOW ALL\0",
+    b"DISCARD ALL\0",
 ]
 SOUND = [
-    message(b"Q", text("SELECT * FROM parts")), parse("SELECT name FROM parts WHERE id = $1", "s"), bind([b"1"], name="s"), describe(b"S", "s"), describe(),
-    execute("", 1), execute(), SYNC, FLUSH, message(b"C", b"S" + text("s")), message(b"Q", text("SELECT relname FROM pg_class")),
-    message(b"Q", text("COPY (SELECT id FROM parts) TO STDOUT CSV")), bind([struct.pack("!q", 1)], name="s", forms=[1], results=[1]),
+    message(b"Q", text("SELECT * FROM parts")),
+    parse("SELECT name FROM parts WHERE id = $1", "s"),
+    bind([b"1"], name="s"),
+    describe(b"S", "s"),
+    describe(),
+    execute("", 1),
+    execute(),
+    SYNC,
+    FLUSH,
+    message(b"C", b"S" + text("s")),
+    message(b"Q", text("SELECT relname FROM pg_class")),
+    message(b"Q", text("COPY (SELECT id FROM parts) TO STDOUT CSV")),
+    bind([struct.pack("!q", 1)], name="s", forms=[1], results=[1]),
 ]
 
 
@@ -312,22 +372,51 @@ def random_messages(count: int, seed: int = 1) -> Cases:
 
 ENDLESS = "WITH RECURSIVE r(n) AS (SELECT 1 UNION ALL SELECT n + 1 FROM r) SELECT count(*) FROM r, pg_catalog.pg_class"
 HOSTILE = [
-    ENDLESS, ENDLESS.replace("count(*)", "n"), "SELECT count(*) FROM pg_attribute a, pg_attribute b, pg_attribute c, pg_attribute d, pg_type e, pg_type f",
-    "SELECT load_extension('x') FROM pg_class", "SELECT load_extension('x.so', 'y') FROM pg_catalog.pg_class", "SELECT readfile('/etc/hostname') FROM pg_class",
-    "SELECT writefile('{0}/written', 'x') FROM pg_class", "ATTACH '{0}/attached' AS pg_x", "SELECT * FROM pg_class; ATTACH DATABASE '{0}/attached' AS y",
-    "PRAGMA database_list", "SELECT * FROM pragma_database_list, pg_class", "SELECT * FROM pg_class WHERE 1 IN (SELECT 1 FROM pragma_table_info('pg_class'))",
-    "SELECT name, sql FROM sqlite_master, pg_class", "VACUUM INTO '{0}/written'", "SELECT hex(zeroblob(500000000)) FROM pg_class",
-    "SELECT randomblob(900000000) FROM pg_class", "SELECT printf('%.*c', 900000000, 'x') FROM pg_class", "SELECT replace(hex(zeroblob(9000)), '0', hex(zeroblob(90000))) FROM pg_class",
-    "SELECT repeat('x', 2000000000) FROM pg_class", "SELECT lpad('x', 2000000000, 'y') FROM pg_class", "SELECT group_concat(hex(zeroblob(100000))) FROM pg_attribute a, pg_attribute b",
-    "SELECT 1 FROM pg_class WHERE '" + "a" * 40 + "!' ~ '^(a+)+$'", "SELECT 1 FROM pg_class WHERE '" + "a" * 2000 + "' LIKE '" + "%a" * 40 + "%b'",
-    "SELECT 1 FROM pg_class WHERE '" + "a" * 30000 + "' ~ '" + "a?" * 3000 + "a" * 3000 + "'", "SELECT " + "(" * 50000 + "1" + ")" * 50000 + " FROM pg_class",
-    "SELECT '" + "x" * 900000 + "' FROM pg_class", "SELECT 1 FROM pg_class WHERE oid IN (" + "1," * 200000 + "1)", "SELECT " + "1 + " * 100000 + "1 FROM pg_class",
-    "SELECT " + "NOT " * 100000 + "TRUE FROM pg_class", "SELECT 1 FROM " + "pg_class a, " * 100 + "pg_class b", "SELECT generate_series(1, 2000000000) FROM pg_class",
-    "SELECT * FROM generate_series(1, 2000000000) g, pg_class", "SELECT json_group_array(a.attname) FROM pg_attribute a, pg_attribute b, pg_attribute c",
-    "INSERT INTO pg_class (relname) VALUES ('x')", "DELETE FROM pg_class", "DROP TABLE pg_class", "UPDATE pg_class SET relname = 'x'",
-    "WITH x AS (SELECT 1) DELETE FROM pg_class", "WITH x AS (SELECT 1) INSERT INTO pg_class (relname) SELECT 'x' FROM pg_class",
-    "SELECT sqlite_version(), sqlite_compileoption_get(1) FROM pg_class", "SELECT fts3_tokenizer('simple') FROM pg_class", "SELECT 1 ::" + "x::" * 50000 + "x FROM pg_class",
+    ENDLESS,
+    ENDLESS.replace("count(*)", "n"),
+    "SELECT count(*) FROM pg_attribute a, pg_attribute b, pg_attribute c, pg_attribute d, pg_type e, pg_type f",
+    "SELECT load_extension('x') FROM pg_class",
+    "SELECT load_extension('x.so', 'y') FROM pg_catalog.pg_class",
+    "SELECT readfile('/etc/hostname') FROM pg_class",
+    "SELECT writefile('{0}/written', 'x') FROM pg_class",
+    "ATTACH '{0}/attached' AS pg_x",
+    "SELECT * FROM pg_class; ATTACH DATABASE '{0}/attached' AS y",
+    "PRAGMA database_list",
+    "SELECT * FROM pragma_database_list, pg_class",
+    "SELECT * FROM pg_class WHERE 1 IN (SELECT 1 FROM pragma_table_info('pg_class'))",
+    "SELECT name, sql FROM sqlite_master, pg_class",
+    "VACUUM INTO '{0}/written'",
+    "SELECT hex(zeroblob(500000000)) FROM pg_class",
+    "SELECT randomblob(900000000) FROM pg_class",
+    "SELECT printf('%.*c', 900000000, 'x') FROM pg_class",
+    "SELECT replace(hex(zeroblob(9000)), '0', hex(zeroblob(90000))) FROM pg_class",
+    "SELECT repeat('x', 2000000000) FROM pg_class",
+    "SELECT lpad('x', 2000000000, 'y') FROM pg_class",
+    "SELECT group_concat(hex(zeroblob(100000))) FROM pg_attribute a, pg_attribute b",
+    "SELECT 1 FROM pg_class WHERE '" + "a" * 40 + "!' ~ '^(a+)+$'",
+    "SELECT 1 FROM pg_class WHERE '" + "a" * 2000 + "' LIKE '" + "%a" * 40 + "%b'",
+    "SELECT 1 FROM pg_class WHERE '" + "a" * 30000 + "' ~ '" + "a?" * 3000 + "a" * 3000 + "'",
+    "SELECT " + "(" * 50000 + "1" + ")" * 50000 + " FROM pg_class",
+    "SELECT '" + "x" * 900000 + "' FROM pg_class",
+    "SELECT 1 FROM pg_class WHERE oid IN (" + "1," * 200000 + "1)",
+    "SELECT " + "1 + " * 100000 + "1 FROM pg_class",
+    "SELECT " + "NOT " * 100000 + "TRUE FROM pg_class",
+    "SELECT 1 FROM " + "pg_class a, " * 100 + "pg_class b",
+    "SELECT generate_series(1, 2000000000) FROM pg_class",
+    "SELECT * FROM generate_series(1, 2000000000) g, pg_class",
+    "SELECT json_group_array(a.attname) FROM pg_attribute a, pg_attribute b, pg_attribute c",
+    "INSERT INTO pg_class (relname) VALUES ('x')",
+    "DELETE FROM pg_class",
+    "DROP TABLE pg_class",
+    "UPDATE pg_class SET relname = 'x'",
+    "WITH x AS (SELECT 1) DELETE FROM pg_class",
+    "WITH x AS (SELECT 1) INSERT INTO pg_class (relname) SELECT 'x' FROM pg_class",
+    "SELECT sqlite_version(), sqlite_compileoption_get(1) FROM pg_class",
+    "SELECT fts3_tokenizer('simple') FROM pg_class",
+    "SELECT 1 ::" + "x::" * 50000 + "x FROM pg_class",
 ]
+
+FORBIDDEN = "load_ext file( ATTACH PRAGMA pragma sqlite_master VACUUM INSERT DELETE DROP UPDATE".split()
 
 
 def memory(pid: int) -> int:
@@ -337,7 +426,7 @@ def memory(pid: int) -> int:
 
 
 def hostile(gateway: Gateway) -> Iterator[Case]:
-    """Queries of the catalogue that ask for too much are refused or end in 5 seconds, others go on meanwhile, and nothing is written or read of this machine."""
+    """Queries of the catalogue that ask for too much are refused or end in 5 seconds, others go on meanwhile, and no file is touched."""
     limit = 1.0
     for pattern in HOSTILE:
         sql = pattern.replace("{0}", str(gateway.folder))
@@ -352,11 +441,13 @@ def hostile(gateway: Gateway) -> Iterator[Case]:
             took = time.monotonic() - begin
             time.sleep(0.05)
         yield f"{name}: ends within 5 s", took < 5 or round(took, 1), True
-        yield f"{name}: the longest that another client waited is less than {limit} s", others.longest < limit or round(others.longest, 1), True
+        yield f"{name}: the longest that another client waited is less than {limit} s", others.longest < limit or round(
+            others.longest, 1
+        ), True
         yield f"{name}: the other's answers", others.wrong, []
         if found is None and took > 9:
             return
-        forbidden = any(word in sql for word in ("load_ext", "file(", "ATTACH", "PRAGMA", "pragma", "sqlite_master", "VACUUM", "INSERT", "DELETE", "DROP", "UPDATE"))
+        forbidden = any(word in sql for word in FORBIDDEN)
         if forbidden and found:
             yield f"{name}: is refused", found.code != "", True
     yield "no file was written", [it for it in ("attached", "written") if (gateway.folder / it).exists()], []
@@ -383,7 +474,9 @@ def stalled(gateway: Gateway) -> Iterator[Case]:
         time.sleep(1)
         later = sorted(others.times[before:])
         yield "others while it stalls: answers in a second", len(later) > 100 or len(later), True
-        yield "others while it stalls: median in ms is less than 20", bool(later) and later[len(later) // 2] < 0.02 or later[len(later) // 2 : len(later) // 2 + 1], True
+        yield "others while it stalls: median in ms is less than 20", bool(later) and later[len(later) // 2] < 0.02 or later[
+            len(later) // 2 : len(later) // 2 + 1
+        ], True
         yield f"the longest wait is less than {alone + 1:.1f} s", others.longest < alone + 1 or others.longest, True
         yield "memory in MB is less than 400", memory(gateway.process.pid) < 400 or memory(gateway.process.pid), True
         yield "then it reads all", it.raw() == wanted, True
@@ -454,6 +547,13 @@ def with_spool(program: str) -> Gateway:
 Group = Tuple[Callable[[str], Gateway], List[Cases]]
 QUICK: List[Group] = [(with_users, [passwords]), (small, [random_messages(200), crowd(20, 10)]), (with_ports, [words]), (with_tls, [tls])]
 LONG: List[Group] = [
-    (small, [crowd(200, 40)]), (small, [cut_off]), (small, [killed]), (small, [killed_often]), (small, [stalled]), (with_spool, [spooled]), (Gateway, [cancelled]), (small, [hostile]),
+    (small, [crowd(200, 40)]),
+    (small, [cut_off]),
+    (small, [killed]),
+    (small, [killed_often]),
+    (small, [stalled]),
+    (with_spool, [spooled]),
+    (Gateway, [cancelled]),
+    (small, [hostile]),
     (small, [random_messages(5000, seed=2)]),
 ]

@@ -15,14 +15,36 @@ def passwords(gateway: Gateway) -> Iterator[Case]:
         yield "the right password", it.query("SELECT current_user").texts, [("admin",)]
     with gateway.connect("ann", password="päss wörd,=") as it:
         yield "a password of other letters", it.query("SELECT current_user").texts, [("ann",)]
-    for user, password in [("admin", "Secret"), ("admin", ""), ("admin", "secret "), ("ann", "secret"), ("nobody", "secret"), ("", ""), ("Bob", "x")]:
-        yield f"{user!r} by {password!r}", refused(lambda user=user, password=password: gateway.connect(user, password=password)) in ("28P01", "28000"), True
+    for user, password in [
+        ("admin", "Secret"),
+        ("admin", ""),
+        ("admin", "secret "),
+        ("ann", "secret"),
+        ("nobody", "secret"),
+        ("", ""),
+        ("Bob", "x"),
+    ]:
+        yield f"{user!r} by {password!r}", refused(lambda user=user, password=password: gateway.connect(user, password=password)) in (
+            "28P01",
+            "28000",
+        ), True
+    yield from broken_exchanges(gateway)
+
+
+def broken_exchanges(gateway: Gateway) -> Iterator[Case]:
+    """Exchanges that are not whole, or that ask for another mechanism."""
     first = b"n,,n=,r=abcdefghijklmnop"
     whole = b"SCRAM-SHA-256\0" + struct.pack("!I", len(first)) + first
     for what, data in [
-        ("a password in plain", [text("secret")]), ("another mechanism", [b"SCRAM-SHA-1\0" + whole[14:]]), ("channel binding without TLS", [whole.replace(b"n,,", b"p=tls-unique,,")]),
-        ("no nonce", [b"SCRAM-SHA-256\0" + struct.pack("!I", 6) + b"n,,n=,"]), ("a length that is wrong", [whole[:14] + struct.pack("!i", -1)]),
-        ("an empty proof", [whole, b"c=biws,r=abcdefghijklmnop,p="]), ("no proof", [whole, b"c=biws"]), ("bytes", [b"\xff\xfe\0\0"]), ("bytes later", [whole, b"\xff\xfe"]),
+        ("a password in plain", [text("secret")]),
+        ("another mechanism", [b"SCRAM-SHA-1\0" + whole[14:]]),
+        ("channel binding without TLS", [whole.replace(b"n,,", b"p=tls-unique,,")]),
+        ("no nonce", [b"SCRAM-SHA-256\0" + struct.pack("!I", 6) + b"n,,n=,"]),
+        ("a length that is wrong", [whole[:14] + struct.pack("!i", -1)]),
+        ("an empty proof", [whole, b"c=biws,r=abcdefghijklmnop,p="]),
+        ("no proof", [whole, b"c=biws"]),
+        ("bytes", [b"\xff\xfe\0\0"]),
+        ("bytes later", [whole, b"\xff\xfe"]),
     ]:
         yield what, exchange(gateway, data), True
     with Client(gateway.port, begins=False) as it:
@@ -52,7 +74,9 @@ def exchange(gateway: Gateway, answers: List[bytes]) -> bool:
 def started(program: str, folder: pathlib.Path, *words: str) -> Tuple[Optional[int], str]:
     """How a gateway with these words ends within 10 seconds: its exit status and standard error."""
     env = {**os.environ, "FEDQ_PROGRAM": program}
-    made = subprocess.Popen([*command(), *words], cwd=folder, env=env, stdin=subprocess.DEVNULL, stdout=subprocess.DEVNULL, stderr=subprocess.PIPE, text=True)
+    made = subprocess.Popen(
+        [*command(), *words], cwd=folder, env=env, stdin=subprocess.DEVNULL, stdout=subprocess.DEVNULL, stderr=subprocess.PIPE, text=True
+    )
     try:
         _, errors = made.communicate(timeout=10)
     except subprocess.TimeoutExpired:
@@ -73,11 +97,16 @@ def words(gateway: Gateway) -> Iterator[Case]:
     (folder / "bad.sql").write_text("CREATE FOREIGN DATA WRAPPER csv HANDLER nope\n", encoding="utf-8")
     port = ["--port", str(free_port())]
     cases = {
-        "a port in use": ["--port", str(gateway.port), "--list", "demo"], "a port that is none": ["--port", "70000", "--list", "demo"],
-        "users that others may read": [*port, "--users", "open_users", "--list", "demo"], "no file of users": [*port, "--users", "none", "--list", "demo"],
-        "a file of users that is none": [*port, "--users", "bad_users", "--list", "demo"], "a folder that others may enter": [*port, "--socket", "open", "--list", "demo"],
-        "no folder for the socket": [*port, "--socket", "none", "--list", "demo"], "no init file": [*port, "--list", "demo", "--init", "none"],
-        "an init file that is refused": [*port, "--list", "demo", "--init", "bad.sql"], "an unknown word": [*port, "--nope"],
+        "a port in use": ["--port", str(gateway.port), "--list", "demo"],
+        "a port that is none": ["--port", "70000", "--list", "demo"],
+        "users that others may read": [*port, "--users", "open_users", "--list", "demo"],
+        "no file of users": [*port, "--users", "none", "--list", "demo"],
+        "a file of users that is none": [*port, "--users", "bad_users", "--list", "demo"],
+        "a folder that others may enter": [*port, "--socket", "open", "--list", "demo"],
+        "no folder for the socket": [*port, "--socket", "none", "--list", "demo"],
+        "no init file": [*port, "--list", "demo", "--init", "none"],
+        "an init file that is refused": [*port, "--list", "demo", "--init", "bad.sql"],
+        "an unknown word": [*port, "--nope"],
         "a source that is not there": [*port, "--csv", "files"],
     }
     for name, given in cases.items():
@@ -97,7 +126,9 @@ def lines_port(gateway: Gateway) -> Iterator[Case]:
     """The port of lines: each connection has session numbers of its own, and is answered as the program answers."""
     asked = b"1 OPEN ann\n1 Q SELECT id FROM parts WHERE id = 1\n2 Q SELECT 1\n1 BYE\n"
     wanted = b"1 T OPEN\n1 H\tid\n1 R\t1\n1 T SELECT 1\n2 E 08003 connection_does_not_exist\n1 T BYE\n"
-    with socket.create_connection(("127.0.0.1", gateway.lines_port), 10) as one, socket.create_connection(("127.0.0.1", gateway.lines_port), 10) as two:
+    with socket.create_connection(("127.0.0.1", gateway.lines_port), 10) as one, socket.create_connection(
+        ("127.0.0.1", gateway.lines_port), 10
+    ) as two:
         one.sendall(asked[:11])
         two.sendall(asked)
         one.sendall(asked[11:])
@@ -125,12 +156,22 @@ def added_user(program: str, gateway: Gateway) -> Iterator[Case]:
     """--add-user writes a file of mode 600, whose passwords are taken; a second user leaves the first as it was."""
     file = gateway.folder / "made_users"
     for user, password in (("admin", "one"), ("ann", "two"), ("admin", "three")):
-        made = subprocess.run([*command(), "--users", str(file), "--add-user", user], input=f"{password}\n{password}\n", stdout=subprocess.PIPE,
-                              stderr=subprocess.PIPE, text=True, start_new_session=True, timeout=20)
+        made = subprocess.run(
+            [*command(), "--users", str(file), "--add-user", user],
+            input=f"{password}\n{password}\n",
+            stdout=subprocess.PIPE,
+            stderr=subprocess.PIPE,
+            text=True,
+            start_new_session=True,
+            timeout=20,
+        )
         yield f"--add-user {user}", (made.returncode, "Traceback" in made.stderr), (0, False)
     content = file.read_text(encoding="utf-8")
     yield "its mode", stat.S_IMODE(file.stat().st_mode), 0o600
-    yield "its lines", [re.fullmatch(r"(\w+):SCRAM-SHA-256\$\d+:[^$]+\$[^:]+:.+", it) is not None for it in content.splitlines()], [True, True]
+    yield "its lines", [re.fullmatch(r"(\w+):SCRAM-SHA-256\$\d+:[^$]+\$[^:]+:.+", it) is not None for it in content.splitlines()], [
+        True,
+        True,
+    ]
     yield "no password is in it", any(it in content for it in ("three", "dGhyZWU")), False
     with Gateway(program, "--users", str(file)) as other:
         for user, password, code in (("admin", "three", ""), ("ann", "two", ""), ("admin", "one", "28P01")):
@@ -195,7 +236,9 @@ def ends(program: str) -> Iterator[Case]:
                 status = gateway.process.wait(10)
                 time.sleep(0.1)
                 yield f"{number.name}: status", status in (0, -number, 128 + number), True
-                yield f"{number.name}: its engine has ended", os.path.exists(f"/proc/{engine}") and b"Z" not in pathlib.Path(f"/proc/{engine}/stat").read_bytes()[:60], False
+                yield f"{number.name}: its engine has ended", os.path.exists(f"/proc/{engine}") and b"Z" not in pathlib.Path(
+                    f"/proc/{engine}/stat"
+                ).read_bytes()[:60], False
                 yield f"{number.name}: no traceback", gateway.faults(), []
         finally:
             gateway.close()

@@ -7,7 +7,12 @@ from support.wire import Client, verifier
 TOP = pathlib.Path(__file__).resolve().parent.parent.parent
 # (a row of sales has a LF, a TAB, a backslash and the text \N, which COPY has to escape)
 PEOPLE = 'id,name,city\n1,Ada,Rome\n2,"Bo, Jr.",Oslo\n3,"",\\N\n'
-SALES = [{"who": 1, "amount": 4, "tags": "x"}, {"who": 1, "amount": 6}, {"who": 2, "amount": 5, "tags": "a\nb\tc\\d"}, {"who": 9, "amount": -7, "tags": "\\N"}]
+SALES = [
+    {"who": 1, "amount": 4, "tags": "x"},
+    {"who": 1, "amount": 6},
+    {"who": 2, "amount": 5, "tags": "a\nb\tc\\d"},
+    {"who": 9, "amount": -7, "tags": "\\N"},
+]
 STAFF = [(1, "Ada L.", 1), (2, "Bo", 0), (4, None, None)]
 INIT = """CREATE FOREIGN DATA WRAPPER csv HANDLER csv
 CREATE SERVER files FOREIGN DATA WRAPPER csv OPTIONS (source 'files')
@@ -65,14 +70,23 @@ def sources(folder: pathlib.Path, middle: int = 1000, large: int = 2000) -> None
 class Gateway:
     """A gateway that serves at `port` until it is closed. Its standard output and error go to files, which `said` reads."""
 
-    def __init__(self, program: str, *words: str, users: Optional[Dict[str, str]] = None, middle: int = 1000, large: int = 2000,
-                 waits: bool = True, makes_certificate: bool = False) -> None:
+    def __init__(
+        self,
+        program: str,
+        *words: str,
+        users: Optional[Dict[str, str]] = None,
+        middle: int = 1000,
+        large: int = 2000,
+        waits: bool = True,
+        makes_certificate: bool = False,
+    ) -> None:
         self.room = tempfile.TemporaryDirectory(prefix="fedq-gateway-")
         self.folder, self.port, self.lines_port, self.program = pathlib.Path(self.room.name), free_port(), 0, program
         (self.folder / "sockets").mkdir(mode=0o700)
         sources(self.folder, middle, large)
         if makes_certificate:
-            words_of_openssl = "req -x509 -newkey rsa:2048 -nodes -days 2 -keyout key.pem -out cert.pem -subj /CN=localhost -addext subjectAltName=DNS:localhost"
+            words_of_openssl = "req -x509 -newkey rsa:2048 -nodes -days 2 -keyout key.pem -out cert.pem -subj /CN=localhost"
+            words_of_openssl += " -addext subjectAltName=DNS:localhost"
             subprocess.run(["openssl", *words_of_openssl.split()], cwd=self.folder, check=True, stderr=subprocess.DEVNULL)
             (self.folder / "key.pem").chmod(0o600)
         given = [*command(), "--port", str(self.port), *words]
@@ -84,7 +98,9 @@ class Gateway:
         paths = [str(TOP / "python"), os.environ.get("PYTHONPATH", "")]
         env = {**os.environ, "FEDQ_PROGRAM": os.path.abspath(program), "PYTHONPATH": os.pathsep.join(filter(None, reversed(paths)))}
         with open(self.folder / "output", "wb") as output, open(self.folder / "errors", "wb") as errors:
-            self.process = subprocess.Popen([*given, *WORDS], cwd=self.folder, env=env, stdin=subprocess.DEVNULL, stdout=output, stderr=errors)
+            self.process = subprocess.Popen(
+                [*given, *WORDS], cwd=self.folder, env=env, stdin=subprocess.DEVNULL, stdout=output, stderr=errors
+            )
         if waits:
             self.wait()
 

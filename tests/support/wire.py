@@ -20,6 +20,7 @@ class Refused(Exception):
 
 class Column(NamedTuple):
     """A column of a RowDescription: its name, the oid of its type, and 0 for texts or 1 for binary."""
+
     name: str
     oid: int
     form: int
@@ -112,7 +113,7 @@ def fields_of(body: bytes) -> Dict[str, str]:
 
 def startup(user: Optional[str], version: int = PROTOCOL_3, **settings: str) -> bytes:
     """A StartupMessage."""
-    words = ({"user": user} if user is not None else {})
+    words = {"user": user} if user is not None else {}
     words.update(settings)
     body = struct.pack("!I", version) + b"".join(text(name) + text(value) for name, value in words.items()) + b"\0"
     return struct.pack("!I", len(body) + 4) + body
@@ -123,7 +124,9 @@ def parse(sql: str, name: str = "", oids: Sequence[int] = ()) -> bytes:
     return message(b"P", text(name) + text(sql) + struct.pack(f"!H{len(oids)}I", len(oids), *oids))
 
 
-def bind(values: Sequence[Optional[bytes]] = (), portal: str = "", name: str = "", forms: Sequence[int] = (), results: Sequence[int] = ()) -> bytes:
+def bind(
+    values: Sequence[Optional[bytes]] = (), portal: str = "", name: str = "", forms: Sequence[int] = (), results: Sequence[int] = ()
+) -> bytes:
     """A Bind message. `forms` are the formats of the values, `results` those asked for the columns: 0 is text, 1 is binary."""
     body = text(portal) + text(name) + struct.pack(f"!H{len(forms)}H", len(forms), *forms) + struct.pack("!H", len(values))
     for it in values:
@@ -157,8 +160,16 @@ def verifier(password: str, rounds: int = 4096) -> str:
 class Client:
     """One connection. It is ready for a query once it is made, unless `begins` is false: then nothing was sent."""
 
-    def __init__(self, port: int, user: str = "admin", password: Optional[str] = None, folder: str = "", begins: bool = True,
-                 seconds: float = SECONDS, **settings: str) -> None:
+    def __init__(
+        self,
+        port: int,
+        user: str = "admin",
+        password: Optional[str] = None,
+        folder: str = "",
+        begins: bool = True,
+        seconds: float = SECONDS,
+        **settings: str,
+    ) -> None:
         if folder:
             self.socket = socket.socket(socket.AF_UNIX)
             self.socket.settimeout(seconds)
@@ -284,8 +295,14 @@ class Client:
         self.send(message(b"Q", text(sql)))
         return self.answer()
 
-    def prepared(self, sql: str, values: Sequence[Optional[bytes]] = (), oids: Sequence[int] = (), forms: Sequence[int] = (),
-                 results: Sequence[int] = ()) -> Answer:
+    def prepared(
+        self,
+        sql: str,
+        values: Sequence[Optional[bytes]] = (),
+        oids: Sequence[int] = (),
+        forms: Sequence[int] = (),
+        results: Sequence[int] = (),
+    ) -> Answer:
         """The answer to a query of the extended protocol, described as a statement and as a portal."""
         self.send(parse(sql, oids=oids) + describe(b"S") + bind(values, forms=forms, results=results) + describe(b"P") + execute() + SYNC)
         return self.answer()

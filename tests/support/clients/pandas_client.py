@@ -31,10 +31,23 @@ def by_psycopg2() -> Any:
         return read("SELECT id FROM parts WHERE id < %s ORDER BY id", made, params=(3,))
 
 
-case("read_sql", lambda: read("SELECT id, name, live FROM parts ORDER BY id"), {"id": [1, 2, 3], "name": ["bolt", "nut", None], "live": [True, True, False]})
-case("types", lambda: {k: str(v) for k, v in pandas.read_sql("SELECT id, name, live FROM parts", engine).dtypes.items()}, {"id": "int64", "name": "object", "live": "bool"})
-case("parameters", lambda: read(sqlalchemy.text("SELECT name, amount FROM people JOIN sales ON who = id WHERE amount > :a ORDER BY amount"), params={"a": 4}),
-     {"name": ["Bo, Jr.", "Ada"], "amount": [5, 6]})
+case(
+    "read_sql",
+    lambda: read("SELECT id, name, live FROM parts ORDER BY id"),
+    {"id": [1, 2, 3], "name": ["bolt", "nut", None], "live": [True, True, False]},
+)
+case(
+    "types",
+    lambda: {k: str(v) for k, v in pandas.read_sql("SELECT id, name, live FROM parts", engine).dtypes.items()},
+    {"id": "int64", "name": "object", "live": "bool"},
+)
+case(
+    "parameters",
+    lambda: read(
+        sqlalchemy.text("SELECT name, amount FROM people JOIN sales ON who = id WHERE amount > :a ORDER BY amount"), params={"a": 4}
+    ),
+    {"name": ["Bo, Jr.", "Ada"], "amount": [5, 6]},
+)
 case("chunks", lambda: [len(it) for it in pandas.read_sql("SELECT id FROM big ORDER BY id", engine, chunksize=900)], [900, 900, 200])
 case("read_sql_table", lambda: pandas.read_sql_table("people", engine).shape, (3, 3))
 case("over psycopg2", by_psycopg2, {"id": [1, 2]})

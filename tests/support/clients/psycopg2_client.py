@@ -98,15 +98,28 @@ def in_transaction() -> Any:
 
 case("rows", lambda: asked("SELECT * FROM parts ORDER BY id"), [(1, "bolt", 10, True), (2, "nut", None, True), (3, None, 0, False)])
 case("columns", described, [("id", 20), ("name", 25), ("live", 16)])
-case("parameters", lambda: asked("SELECT name FROM parts WHERE id = %s OR name = %s OR live = %s", (1, "nu't\\n", False)), [("bolt",), (None,)])
+case(
+    "parameters",
+    lambda: asked("SELECT name FROM parts WHERE id = %s OR name = %s OR live = %s", (1, "nu't\\n", False)),
+    [("bolt",), (None,)],
+)
 case("parameters by name", lambda: asked("SELECT name FROM parts WHERE id = %(id)s", {"id": 2}), [("nut",)])
 case("a list", lambda: asked("SELECT id FROM parts WHERE id IN %s ORDER BY id", ((1, 3),)), [(1,), (3,)])
 case("no injection", lambda: asked("SELECT id FROM parts WHERE name = %s", ("x' OR TRUE --",)), [])
-case("a join of three kinds", lambda: asked("SELECT p.name, s.amount, t.active FROM people p JOIN sales s ON s.who = p.id JOIN staff t ON t.id = p.id ORDER BY amount"),
-     [("Ada", 4, True), ("Bo, Jr.", 5, False), ("Ada", 6, True)])
+case(
+    "a join of three kinds",
+    lambda: asked(
+        "SELECT p.name, s.amount, t.active FROM people p JOIN sales s ON s.who = p.id JOIN staff t ON t.id = p.id ORDER BY amount"
+    ),
+    [("Ada", 4, True), ("Bo, Jr.", 5, False), ("Ada", 6, True)],
+)
 case("a text of LF and TAB", lambda: asked("SELECT tags FROM sales WHERE amount = 5"), [("a\nb\tc\\d",)])
 case("a server-side cursor", named, [(1, "bolt"), (2, "nut"), (3, None)])
-case("COPY as CSV", lambda: copied("COPY (SELECT id, name FROM people ORDER BY id) TO STDOUT WITH (FORMAT csv, HEADER)"), 'id,name\n1,Ada\n2,"Bo, Jr."\n3,""\n')
+case(
+    "COPY as CSV",
+    lambda: copied("COPY (SELECT id, name FROM people ORDER BY id) TO STDOUT WITH (FORMAT csv, HEADER)"),
+    'id,name\n1,Ada\n2,"Bo, Jr."\n3,""\n',
+)
 case("COPY as text", lambda: copied("COPY parts TO STDOUT"), "1\tbolt\t10\tt\n2\tnut\t\\N\tt\n3\t\\N\t0\tf\n")
 case("many rows", many, ([(60, 1, None), (61, 2, -2), (62, 1, 1), (63, 2, 2)], "DELETE 4"))
 case("an error", lambda: asked("SELECT nope FROM parts"), "UndefinedColumn 42703")

@@ -71,14 +71,30 @@ def transaction() -> Any:
 PARTS = [(1, "bolt", True), (2, "nut", True), (3, None, False)]
 case("rows", lambda: asked("SELECT id, name, live FROM parts ORDER BY id"), PARTS)
 case("binary rows", lambda: asked("SELECT id, name, live FROM parts ORDER BY id", binary=True), PARTS)
-case("parameters", lambda: asked("SELECT id FROM parts WHERE id = %s OR name = %s OR live = %s ORDER BY id", (1, "nut", False)), [(1,), (2,), (3,)])
-case("binary parameters", lambda: asked("SELECT id FROM parts WHERE id = %b OR name = %b OR live = %b ORDER BY id", (1, "nut", False)), [(1,), (2,), (3,)])
+case(
+    "parameters",
+    lambda: asked("SELECT id FROM parts WHERE id = %s OR name = %s OR live = %s ORDER BY id", (1, "nut", False)),
+    [(1,), (2,), (3,)],
+)
+case(
+    "binary parameters",
+    lambda: asked("SELECT id FROM parts WHERE id = %b OR name = %b OR live = %b ORDER BY id", (1, "nut", False)),
+    [(1,), (2,), (3,)],
+)
 case("a text for an integer", lambda: asked("SELECT name FROM parts WHERE id = %s", ("2",)), [("nut",)])
 case("None", lambda: asked("SELECT name FROM parts WHERE id = %s", (None,)), [])
-case("large and negative integers", lambda: asked("SELECT id FROM parts WHERE qty > %s AND qty < %s ORDER BY id", (-(2**62), 2**62)), [(1,), (3,)])
+case(
+    "large and negative integers",
+    lambda: asked("SELECT id FROM parts WHERE qty > %s AND qty < %s ORDER BY id", (-(2**62), 2**62)),
+    [(1,), (3,)],
+)
 case("no injection", lambda: asked("SELECT id FROM parts WHERE name = %s", ("x' OR TRUE --",)), [])
 case("a text of LF in a parameter", lambda: asked("SELECT id FROM parts WHERE name = %s", ("a\nb",)), "FeatureNotSupported 0A000")
-case("a prepared statement", lambda: [asked("SELECT name FROM parts WHERE id = %s", (it,), prepare=True) for it in (1, 2, 1)], [[("bolt",)], [("nut",)], [("bolt",)]])
+case(
+    "a prepared statement",
+    lambda: [asked("SELECT name FROM parts WHERE id = %s", (it,), prepare=True) for it in (1, 2, 1)],
+    [[("bolt",)], [("nut",)], [("bolt",)]],
+)
 case("a server-side cursor", lambda: named(False), PARTS)
 case("a binary server-side cursor", lambda: named(True), PARTS)
 case("a pipeline", pipeline, ((3,), (3,), (1,)))

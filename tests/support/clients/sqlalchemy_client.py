@@ -46,13 +46,28 @@ def inspected() -> Any:
     return sqlalchemy.inspect(engine)
 
 
-case("text with a parameter", lambda: asked(sqlalchemy.text("SELECT id, name FROM parts WHERE id < :x ORDER BY id"), x=3), [(1, "bolt"), (2, "nut")])
+case(
+    "text with a parameter",
+    lambda: asked(sqlalchemy.text("SELECT id, name FROM parts WHERE id < :x ORDER BY id"), x=3),
+    [(1, "bolt"), (2, "nut")],
+)
 case("tables", lambda: sorted({*inspected().get_table_names(), *inspected().get_view_names()}), TABLES)
 case("has_table", lambda: [inspected().has_table(it) for it in ("parts", "nope")], [True, False])
-case("columns", lambda: [(it["name"], str(it["type"]), it["nullable"]) for it in inspected().get_columns("staff")],
-     [("id", "BIGINT", False), ("name", "TEXT", True), ("active", "BOOLEAN", True)])
+case(
+    "columns",
+    lambda: [(it["name"], str(it["type"]), it["nullable"]) for it in inspected().get_columns("staff")],
+    [("id", "BIGINT", False), ("name", "TEXT", True), ("active", "BOOLEAN", True)],
+)
 case("schemas", lambda: "public" in inspected().get_schema_names(), True)
-case("keys and indexes", lambda: (inspected().get_pk_constraint("parts")["constrained_columns"], inspected().get_foreign_keys("parts"), inspected().get_indexes("parts")), ([], [], []))
+case(
+    "keys and indexes",
+    lambda: (
+        inspected().get_pk_constraint("parts")["constrained_columns"],
+        inspected().get_foreign_keys("parts"),
+        inspected().get_indexes("parts"),
+    ),
+    ([], [], []),
+)
 case("reflected and joined", reflected, [("bolt", 10)])
 case("a stream", streamed, 2000)
 case("writes", written, ([(80, 1, None), (81, 2, 4)], 2))
