@@ -232,6 +232,10 @@ def killed_often(gateway: Gateway) -> Iterator[Case]:
             gateway.kill_engine()
             refused(lambda: gateway.connect("ann"))
         yield "an old client", answered_again(it), "answered"
+        end = time.monotonic() + 5
+        while (code := refused(lambda: gateway.connect("ann"))) == "57P03" and time.monotonic() < end:
+            time.sleep(0.05)
+        yield "a new one is taken within 5 s", code, ""
         with gateway.connect("ann") as new:
             yield "a new one", answered_again(new), "answered"
 
