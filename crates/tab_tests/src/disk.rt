@@ -1,5 +1,5 @@
 //! A disk in memory.
-ghost use Rattle.std.specs.Prelude.{◌≡◌, ◌+◌, true, false, take, Some, IsTrue, IfOk, IfErr, IfSome};
+ghost use Rattle.std.specs.Prelude.{◌≡◌, ◌+◌, true, false, take, Some, None, IsTrue, IfOk, IfErr, IfSome};
 ghost use Rattle.tab_tests.specs.Drives.{at_path, ChangesAt};
 
 use crate::files::{Files, Stored};
