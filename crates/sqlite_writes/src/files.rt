@@ -68,9 +68,9 @@ pub trait Databases {
         ensures err { IfErr result (Self.Files.DatabaseFiles.refuses files) };
 }
 
-/// The database at this path, in no transaction, with what looks at its files: that of the files that stand there, where these are known. Of one whose store always
-/// returns what was written that is said with no look at its disk, and each layout's three texts are for one table, of no two layouts the
-/// same, or are not understood.
+/// The database at this path, in no transaction, with what looks at its files: that of the files that stand there, where these are known.
+/// Of one whose store always returns what was written that is said with no look at its disk, and each layout's three texts are for one
+/// table, of no two layouts the same, or are not understood.
 ///
 /// # Errors
 ///
