@@ -99,12 +99,15 @@ impl PlaceIndex {
         Ok(())
     }
 
-    /// How many integers and texts it has. The scans by it are right whatever this says: it tells which of two indexes leads to fewer places.
+    /// Returns how many integers and texts it has. Of two indexes the one with more leads to fewer places; scans are right by either.
     pub fn distinct(&self) -> usize {
-        self.firsts.whole.len().saturating_add(self.firsts.texts.len())
+        self.firsts
+            .whole
+            .len()
+            .saturating_add(self.firsts.texts.len())
     }
 
-    /// Whether a value has two places at most, taken over all.
+    /// Returns whether a value has at most two places, on average.
     pub fn is_sharp(&self) -> bool {
         self.next.len() / 2 <= self.distinct()
     }

@@ -12,7 +12,7 @@ loop-at-preserved c =
     let rows = numbered 0 c.args.rows.now.items in
     let spec = spec_of c.args.spec.now in
     elim c.match-exact_at.branch [
-      in-Some-exact_at+then-found-best+in_ok-places-2+then-distinct w ↦ subst (λ (b : SoughtIndex). Serves spec rows (Some b)) (sym w.best-is)
+      | in-Some-exact_at+then-found-best+in_ok-places-2+then-distinct w ↦ subst (λ (b : SoughtIndex). Serves spec rows (Some b)) (sym w.best-is)
           (serves_found spec rows _ w.in-Some-exact_at.ensures w.in_ok-places-2.ensures)
       | in-Some-exact_at+then-found-best+in_ok-places-2+else-distinct w ↦ subst (λ (b : SoughtIndex). Serves spec rows (Some b)) (sym w.best-is) c.loop-at.invariant
       | in_default w ↦ subst (λ (b : SoughtIndex). Serves spec rows (Some b)) (sym w.best-is) c.loop-at.invariant
