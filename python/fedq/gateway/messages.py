@@ -43,6 +43,11 @@ def complete(tag: str) -> bytes:
     return message(b"C", c_string(tag))
 
 
+def negotiated(options: Sequence[str]) -> bytes:
+    """NegotiateProtocolVersion: 3.0 is spoken, and these options are not known."""
+    return message(b"v", struct.pack("!II", VERSION_3, len(options)) + b"".join(map(c_string, options)))
+
+
 def parameter_status(name: str, value: str) -> bytes:
     return message(b"S", c_string(name) + c_string(value))
 
