@@ -14,13 +14,13 @@ from .outlet import Outlet
 from .output import Output
 from .scram import BadUsers, Wrong
 from .settings import REPORTED, Settings
+from .words import is_loopback
 
 if TYPE_CHECKING:
     from .hub import Hub
 
 START_SECONDS, WRONG_SECONDS, LEAVE_SECONDS = 60, 0.3, 5
 INBOX_BYTES = 1 << 23
-LOOPBACK = ("127.", "::1", "::ffff:127.")
 FAULTS = (Refused, Unsayable, Gone, TooLong)
 IGNORED = b"dcf"
 
@@ -46,7 +46,7 @@ class Connection(asyncio.Protocol):
         self.use(transport)
         peer = transport.get_extra_info("peername")
         self.peer = f"{peer[0]}:{peer[1]}" if isinstance(peer, tuple) else "local"
-        self.is_local = not isinstance(peer, tuple) or peer[0].startswith(LOOPBACK)
+        self.is_local = not isinstance(peer, tuple) or is_loopback(peer[0])
         self.flow = Flow(self.serve(), self.abort)
         self.timer = self.hub.loop.call_later(START_SECONDS, self.abort)
         self.hub.joins(self)

@@ -8,7 +8,7 @@ from .messages import (BIND_COMPLETE, CLOSE_COMPLETE, EMPTY_QUERY, NO_DATA, PARS
                        parameter_description, read_bind,
                        row_description)
 from .output import Held, Output, all_formats, names_in
-from .parameters import infer, is_known, literal, places, samples
+from .parameters import infer, is_known, literal, places, samples, without_null_patterns
 from .rows import TEXT
 from .sentences import refusal
 from .session import Session
@@ -34,6 +34,7 @@ class Prepared:
             raise Refused("54000", f"a statement has at most {MOST_PARAMETERS:,} parameters here", "send the rows in parts")
         self.oids = list(oids[:self.count]) + [0] * (self.count - len(oids))
         self.places = places(found)
+        self.has_patterns = any(before == "like" for before, _ in self.places.values())
         for number, (_, oid) in self.places.items():
             if not is_known(self.oids[number]):
                 self.oids[number] = oid
@@ -65,8 +66,8 @@ class Prepared:
         self.renew()
         if self.model is None or not literals:
             return self.model
-        if self.model.kind != ENGINE:
-            return self.statements.made(sql.with_values(self.given, literals), self.database)
+        if self.model.kind != ENGINE or self.has_patterns and "NULL" in literals:
+            return self.statements.made(sql.with_values(without_null_patterns(self.given, literals), literals), self.database)
         kinds = tuple("text" if it[0] == "'" else it if it[0].isalpha() else "(number)" if it[0] == "-" else "number" for it in literals)
         form = self.forms.get(kinds)
         found = None
