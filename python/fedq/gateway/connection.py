@@ -5,15 +5,18 @@ from typing import TYPE_CHECKING, Deque, Dict, Optional, Tuple
 
 from ..sql import Unsayable
 from .catalogue import Asker
-from .engine import Gone, TooLong
+from .engine import Gone, Request, TooLong
 from .extended import Extended
 from .flow import Flow, Wait
 from .messages import (CANCEL_REQUEST, EMPTY_QUERY, GSS_REQUEST, READY, SSL_REQUEST, START_BYTES, VERSION_3, Body, Refused, cut, decoded,
                        error, message, negotiated, parameter_status)
 from .outlet import Outlet
 from .output import Output
+from .quick import started
 from .scram import BadUsers, Wrong
+from .sentences import refusal
 from .settings import REPORTED, Settings
+from .transactions import IDLE
 from .words import is_loopback
 
 if TYPE_CHECKING:
@@ -154,6 +157,11 @@ class Connection(asyncio.Protocol):
                 return
             while True:
                 kind, body = self.inbox.popleft() if self.inbox else await self.next()
+                if kind == 66 and self.inbox and not self.is_failed:  # B
+                    begun = started(self.session, body, self.inbox)
+                    if begun is not None:
+                        await self.finish(*begun)
+                        continue
                 if kind == 88:  # X
                     break
                 await self.take(kind, body)
@@ -194,6 +202,29 @@ class Connection(asyncio.Protocol):
         if self.outlet.is_behind:
             self.outlet.flush()
             await self.outlet.drained()
+
+    async def finish(self, request: Request, output: Output, count: int) -> None:
+        """Waits for the reply to a prepared query that was asked in one pass, and takes its messages up to Sync."""
+        session, outlet = self.session, self.outlet
+        for _ in range(count):
+            self.inbox.popleft()
+        try:
+            try:
+                reply = await request
+            except Gone as fault:
+                if fault.was_sent or session.cursors or session.transaction.status != IDLE:
+                    raise
+                reply = await session.ask(request.line[2:], output.take)
+            if reply.code:
+                raise refusal(reply.code, reply.name)
+            output.end(reply.header, reply.tag)
+        except FAULTS as fault:
+            session.refuse(fault)
+        session.sync()
+        outlet.add(READY[session.transaction.status])
+        if outlet.is_behind:
+            outlet.flush()
+            await outlet.drained()
 
     async def simple(self, body: bytes) -> None:
         """The statements of one text, one after the other. Each is done by itself: a fault ends the rest."""

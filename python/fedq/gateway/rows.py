@@ -69,6 +69,8 @@ def slices(piece: bytes) -> Iterator[bytes]:
 def data_rows(piece: bytes, prefix: bytes, width: int, formats: Sequence[int] = (), oids: Sequence[int] = ()) -> Tuple[bytes, int]:
     """The DataRow messages of some whole R lines, each of which begins with `prefix`, and how many rows there are. `formats` has 1 for
     each column that is asked in binary."""
+    if len(piece) < 4096 and b"\\" not in piece and not formats and piece.count(b"\n") == 1:
+        return one_row(piece[len(prefix):-1].split(b"\t")), 1
     fields = piece[len(prefix):-1].replace(b"\n" + prefix, b"\t").split(b"\t")
     nulls = without_escapes(fields) if b"\\" in piece else ()
     for at, (form, oid) in enumerate(zip(formats, oids)):
@@ -86,6 +88,13 @@ def data_rows(piece: bytes, prefix: bytes, width: int, formats: Sequence[int] = 
     heads = HEADS.get(width) or HEADS.setdefault(width, Heads(width))
     parts[0::2 * width] = map(add, map(heads.__getitem__, totals), parts[0::2 * width])
     return b"".join(parts), len(totals)
+
+
+def one_row(fields: List[bytes]) -> bytes:
+    """The DataRow message of fields that are not NULL."""
+    width = len(fields)
+    heads = HEADS.get(width) or HEADS.setdefault(width, Heads(width))
+    return heads[sum(map(len, fields))] + b"".join([LENGTHS[len(it)] + it for it in fields])
 
 
 def without_escapes(fields: List[bytes]) -> List[int]:
