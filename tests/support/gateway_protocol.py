@@ -266,6 +266,11 @@ def texts_there_and_back(it: Client) -> Iterator[Case]:
         found = it.prepared("SELECT name FROM parts WHERE name = $1 AND id = 3", [data.encode()])
         yield f"{data!r} there and back", found.texts, [(data,)]
     it.query("UPDATE parts SET name = NULL WHERE id = 3")
+    for sql in ("name LIKE $1", "name NOT LIKE $1", "NOT name LIKE $1 AND id > $2"):
+        values = [None, b"0"][:sql.count("$")]
+        yield f"{sql} of NULL", it.prepared(f"SELECT id FROM parts WHERE {sql}", values).rows, []
+    found = it.prepared("SELECT id, name LIKE $1 AS x FROM parts WHERE id < 3 AND (name LIKE $2 OR name LIKE $1)", [None, b"b%"])
+    yield "a pattern that is NULL beside one that is none", found.texts, [("1", None)]
     yield "NULL equals nothing", it.prepared("SELECT id FROM parts WHERE id = $1", [None]).rows, []
     yield "least integer", it.prepared("SELECT id FROM parts WHERE qty > $1 ORDER BY id", [b"-9223372036854775808"]).texts, [
         ("1",),

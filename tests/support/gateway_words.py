@@ -93,6 +93,8 @@ def words(gateway: Gateway) -> Iterator[Case]:
     (folder / "open_users").write_text(f"admin:{verifier('x')}\n", encoding="utf-8")
     (folder / "open_users").chmod(0o644)
     (folder / "bad_users").write_text("admin\n", encoding="utf-8")
+    (folder / "good_users").write_text(f"admin:{verifier('x')}\n", encoding="utf-8")
+    (folder / "good_users").chmod(0o600)
     (folder / "bad_users").chmod(0o600)
     (folder / "bad.sql").write_text("CREATE FOREIGN DATA WRAPPER csv HANDLER nope\n", encoding="utf-8")
     port = ["--port", str(free_port())]
@@ -106,12 +108,16 @@ def words(gateway: Gateway) -> Iterator[Case]:
         "no folder for the socket": [*port, "--socket", "none", "--list", "demo"],
         "no init file": [*port, "--list", "demo", "--init", "none"],
         "an init file that is refused": [*port, "--list", "demo", "--init", "bad.sql"],
+        "a port of lines beside passwords": [*port, "--users", "good_users", "--lines-port", str(free_port()), "--list", "demo"],
+        "a name that begins as 127": [*port, "--host", "127.example.org", "--list", "demo"],
         "an unknown word": [*port, "--nope"],
         "a source that is not there": [*port, "--csv", "files"],
     }
     for name, given in cases.items():
         status, errors = started(program, folder, *given)
         yield f"{name}: does not start", status not in (None, 0), True
+        if "--users" in errors and "good_users" in given:
+            yield f"{name}: the reason and the way out", (status, "--lines-without-passwords" in errors), (2, True)
         yield f"{name}: a sentence, no traceback", errors.strip() != "" and "Traceback" not in errors and "fedq" in errors, True
     yield "without --users a warning", "without --users" in gateway.said(), True
     mode = stat.S_IMODE(os.stat(gateway.folder / "sockets").st_mode)

@@ -1,8 +1,8 @@
 """Rows: the program's R lines as PostgreSQL's DataRow and CopyData messages. Whole pieces are cut into fields at once, and worked on by
 columns, so that there is no step of Python for each row; only fields with a backslash are looked at one by one."""
 import re, struct
-from operator import add, itemgetter
-from typing import Dict, Iterator, List, Sequence, Tuple
+from operator import add
+from typing import Dict, Iterator, List, Sequence, Tuple, Union
 
 BIGINT, TEXT, BOOLEAN = 20, 25, 16
 NULL = b"\\N"
@@ -49,6 +49,22 @@ class CopyHeads(dict):
 
 LENGTHS, COPY_HEADS = Lengths(), CopyHeads()
 HEADS: Dict[int, Heads] = {}
+Table = Union[List[bytes], Dict[int, bytes]]
+# The lengths of short fields, and for each width the heads of short rows, by their lengths: a list is faster than a dictionary.
+SHORT = 2048
+SHORT_LENGTHS = [LENGTHS[it] for it in range(SHORT)]
+SHORT_HEADS: Dict[int, List[bytes]] = {}
+
+
+def heads_of(width: int) -> Heads:
+    return HEADS.get(width) or HEADS.setdefault(width, Heads(width))
+
+
+def short_heads(width: int) -> List[bytes]:
+    """The heads of rows of this width, by the bytes of their fields."""
+    if width not in SHORT_HEADS:
+        SHORT_HEADS[width] = [heads_of(width)[it] for it in range(SHORT)]
+    return SHORT_HEADS[width]
 
 
 def unescaped(field: bytes) -> bytes:
@@ -69,23 +85,45 @@ def slices(piece: bytes) -> Iterator[bytes]:
 def data_rows(piece: bytes, prefix: bytes, width: int, formats: Sequence[int] = (), oids: Sequence[int] = ()) -> Tuple[bytes, int]:
     """The DataRow messages of some whole R lines, each of which begins with `prefix`, and how many rows there are. `formats` has 1 for
     each column that is asked in binary."""
+    if len(piece) < 4096 and b"\\" not in piece and not formats and piece.count(b"\n") == 1:
+        return one_row(piece[len(prefix):-1].split(b"\t")), 1
     fields = piece[len(prefix):-1].replace(b"\n" + prefix, b"\t").split(b"\t")
     nulls = without_escapes(fields) if b"\\" in piece else ()
     for at, (form, oid) in enumerate(zip(formats, oids)):
         if form and oid != TEXT:
             fields[at::width] = binary(fields[at::width], oid)
-    lengths = list(map(len, fields))
-    totals = lengths[0::width]
-    for at in range(1, width):
-        totals = list(map(add, totals, lengths[at::width]))
-    parts: List[bytes] = [b""] * (2 * len(fields))
-    parts[0::2] = itemgetter(*lengths)(LENGTHS) if len(lengths) > 1 else [LENGTHS[lengths[0]]]
+    try:
+        return joined(fields, nulls, width, SHORT_LENGTHS, short_heads(width)), len(fields) // width
+    except IndexError:  # (a field or a row is longer)
+        return joined(fields, nulls, width, LENGTHS, heads_of(width)), len(fields) // width
+
+
+def joined(fields: List[bytes], nulls: Sequence[int], width: int, lengths: Table, heads: Table) -> bytes:
+    """The DataRow messages of these fields, of which those at `nulls` are NULL; made column by column. Lengths are not looked up where all
+    of a column are the same, as those of numbers and booleans often are."""
+    step, count = 2 * width + 1, len(fields) // width
+    parts: List[bytes] = [b""] * (step * count)
+    same, totals = 0, None
+    for at in range(width):
+        column = fields[at::width]
+        sizes = list(map(len, column))
+        first = sizes[0]
+        if first == sizes[-1] == sizes[count >> 1] and sizes.count(first) == count:
+            same += first
+            parts[2 * at + 1::step] = [lengths[first]] * count
+        else:
+            totals = sizes if totals is None else map(add, totals, sizes)
+            parts[2 * at + 1::step] = [lengths[it] for it in sizes]
+        parts[2 * at + 2::step] = column
+    parts[0::step] = [heads[same]] * count if totals is None else [heads[same + it] for it in totals]
     for at in nulls:
-        parts[2 * at] = NULL_LENGTH
-    parts[1::2] = fields
-    heads = HEADS.get(width) or HEADS.setdefault(width, Heads(width))
-    parts[0::2 * width] = map(add, map(heads.__getitem__, totals), parts[0::2 * width])
-    return b"".join(parts), len(totals)
+        parts[at // width * step + 2 * (at % width) + 1] = NULL_LENGTH
+    return b"".join(parts)
+
+
+def one_row(fields: List[bytes]) -> bytes:
+    """The DataRow message of fields that are not NULL."""
+    return heads_of(len(fields))[sum(map(len, fields))] + b"".join([LENGTHS[len(it)] + it for it in fields])
 
 
 def without_escapes(fields: List[bytes]) -> List[int]:

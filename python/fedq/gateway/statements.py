@@ -4,7 +4,7 @@ import re
 from typing import Dict, FrozenSet, List, Optional, Sequence, Tuple
 
 from .. import sql
-from ..sql import Token, Unsayable
+from ..sql import Token
 from .asked import is_of_catalogue
 from .objects import Objects
 
@@ -92,11 +92,8 @@ class Statements:
 
 
 def bare(found: Sequence[Token], database: str) -> List[Token]:
-    """Tokens without `public.` and `database.public.` before names. Fails with Unsayable where a name ends in a point."""
-    try:
-        return list(sql.without_schema(list(found), ("public", ), (database, )))
-    except IndexError:
-        raise Unsayable("42601", "a name is missing behind a point")
+    """Tokens without `public.` and `database.public.` before names."""
+    return list(sql.without_schema(list(found), ("public", ), (database, )))
 
 
 def is_plain(shape: str, text: str, statement: Statement) -> bool:
