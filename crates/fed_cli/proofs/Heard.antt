@@ -1,6 +1,7 @@
 -- Connections to a port that were served.
 use Rattle.std.proofs.Common.{◌≡◌, ℕ, Bool, true, List, [], ◌∷◌, ◌++◌, ◌+◌, length, Option, Result, Ok, Err, sym, ap, ◌∙◌, subst, append-nil, arith}
 use Rattle.std.specs.Prelude.{OnOk}
+use Rattle.std.proofs.lemmas.List.Elements.{All-nil, All-cons}
 use Rattle.std.specs.Io.KnownBytes.{Appends}
 use Rattle.med_session.specs.Engine.{Shown}
 use Rattle.fed_cli.specs.Exits.{TellsText}
@@ -20,8 +21,9 @@ use Rattle.fed_cli.specs.declared.listening.ListenFault.TheVariants as faults
 
 -- what is taken fresh is fresh
 all_fresh : {C R W : Type 0} (closes : Moves C (Guarded R) W) (old new : C) (turns : List (Turn (Guarded R) W)) → AreTaken (λ _ reader _ _. IsFresh reader) closes old turns new → AreFresh turns
-all_fresh closes old new [] taken = tt
-all_fresh closes old new (t ∷ turns) taken = (taken.2, all_fresh closes taken.1 new turns taken.4)
+all_fresh {C} {R} {W} closes old new [] taken = All-nil (λ (t : Turn (Guarded R) W). IsFresh t.reader)
+all_fresh {C} {R} {W} closes old new (t ∷ turns) taken =
+    All-cons (λ (t : Turn (Guarded R) W). IsFresh t.reader) t turns taken.2 (all_fresh closes taken.1 new turns taken.4)
 
 -- the port was told, and these connections were served
 pub heard : {C R W : Type 0} (refuses : C → C → Type 0) (closes : Moves C (Guarded R) W) (remaining : R → Option (List ℕ)) (contents : W → Option (List ℕ)) (turns : List (Turn (Guarded R) W)) (first last back : C) (came : Result (Unit {0}) AcceptFault) (result : Result (Unit {0}) ListenFault) (old new : Shown) (port count : ℕ) (is_told : Bool) (output errors : Stream)
