@@ -5,7 +5,7 @@ import re, sqlite3, time
 from concurrent.futures import Future, ThreadPoolExecutor
 from typing import Any, Dict, List, NamedTuple, Optional, Sequence, Tuple
 
-from ..sql import Token, line, with_depth
+from ..sql import Token, with_depth
 from .catalogue_functions import SAFE, make_functions
 from .catalogue_rows import fill
 from .messages import Refused
@@ -66,7 +66,7 @@ class Catalogue:
             self.make(known)
             self.version = version
         self.own_rows()
-        text = line(translated(list(found)))
+        text = " ".join([it.raw for it in translated(list(found))])  # (it is no request line: a text may have a line end)
         for part, other in KNOWN:
             text = text.replace(part, other)
         try:
