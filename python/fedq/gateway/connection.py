@@ -231,7 +231,11 @@ class Connection(asyncio.Protocol):
         if body[-1:] != b"\0":
             raise Refused("08P01", "the message could not be read: its text does not end")
         session, outlet = self.session, self.outlet
-        found = self.hub.statements.of(decoded(body[:-1]), session.database)
+        text, known = decoded(body[:-1]), self.hub.statements
+        if self.hub.is_long(text):
+            found = known.of_parts(await self.hub.parts(text), session.database)
+        else:
+            found = known.of(text, session.database)
         if not found:
             outlet.add(EMPTY_QUERY)
         for it in found:

@@ -116,7 +116,7 @@ class Extended(Session):
         reader = Body(body)
         name, text = reader.text(), reader.text()
         oids = reader.numbers("I", reader.number("!H"))
-        parts = sql.statements(text)
+        parts = await self.hub.parts(text) if self.hub.is_long(text) else sql.statements(text)
         if len(parts) > 1:
             raise Refused("42601", "cannot insert multiple commands into a prepared statement", "prepare each statement by itself")
         if name and name in self.prepared:

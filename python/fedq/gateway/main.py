@@ -156,6 +156,7 @@ async def finish(hub: Hub, servers: Sequence[asyncio.AbstractServer], words: arg
     hub.is_again = True
     hub.engine.stop()
     hub.catalogue.close()
+    hub.cutter.shutdown(wait=False)
     until = hub.loop.time() + END_SECONDS
     while hub.engine.is_up and hub.loop.time() < until:
         await asyncio.sleep(0.01)

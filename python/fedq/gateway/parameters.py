@@ -79,7 +79,8 @@ def without_null_patterns(found: Sequence[Token], literals: Sequence[str]) -> Li
     """Tokens in which `LIKE $n` is `IN ($n)` where the literal is NULL: both are unknown, and a pattern has to be a text."""
     made: List[Token] = []
     for before, it in zip([None, *found], found):
-        if it.kind == "parameter" and literals[int(it.value[1:]) - 1] == "NULL" and before and (before.kind, before.value) == ("word", "like"):
+        is_pattern = it.kind == "parameter" and before is not None and (before.kind, before.value) == ("word", "like")
+        if is_pattern and literals[int(it.value[1:]) - 1] == "NULL":
             made[-1:] = [Token("word", "IN", "in"), Token("mark", "(", "("), it, Token("mark", ")", ")")]
         else:
             made.append(it)

@@ -9,7 +9,9 @@ public class Jdbc {
   static void check(String name, String wanted, Found found) {
     String made;
     try { made = found.get(); }
-    catch (SQLException fault) { made = "error " + fault.getSQLState() + (wanted.startsWith("error") ? "" : " " + fault.getMessage().split("\n")[0]); }
+    catch (SQLException fault) {
+      made = "error " + fault.getSQLState() + (wanted.startsWith("error") ? "" : " " + fault.getMessage().split("\n")[0]);
+    }
     catch (Exception fault) { made = fault.toString(); }
     System.out.println(wanted.equals(made) ? "ok " + name : "bad " + name + ": wanted " + wanted + ", found " + made.replace('\n', ' '));
   }
@@ -47,9 +49,15 @@ public class Jdbc {
 
   static String written(Connection by) throws SQLException {
     try (PreparedStatement it = by.prepareStatement("INSERT INTO orders VALUES (?, ?, ?)"); Statement other = by.createStatement()) {
-      for (int at = 0; at < 3; at++) { it.setLong(1, 90 + at); if (at == 1) it.setNull(2, Types.BIGINT); else it.setLong(2, at); it.setInt(3, -at); it.addBatch(); }
+      for (int at = 0; at < 3; at++) {
+        it.setLong(1, 90 + at);
+        if (at == 1) it.setNull(2, Types.BIGINT); else it.setLong(2, at);
+        it.setInt(3, -at);
+        it.addBatch();
+      }
       String made = Arrays.toString(it.executeBatch());
-      return made + " " + rows(other.executeQuery("SELECT no, part, n FROM orders WHERE no >= 90 ORDER BY no"), 1, 2, 3) + " " + other.executeUpdate("DELETE FROM orders WHERE no >= 90");
+      return made + " " + rows(other.executeQuery("SELECT no, part, n FROM orders WHERE no >= 90 ORDER BY no"), 1, 2, 3)
+          + " " + other.executeUpdate("DELETE FROM orders WHERE no >= 90");
     }
   }
 
@@ -58,7 +66,9 @@ public class Jdbc {
     try (Statement it = by.createStatement()) {
       it.setFetchSize(300);
       int count = 0;
-      try (ResultSet rows = it.executeQuery("SELECT id FROM big ORDER BY id")) { while (rows.next()) count += rows.getLong(1) == count ? 1 : 1000000; }
+      try (ResultSet rows = it.executeQuery("SELECT id FROM big ORDER BY id")) {
+        while (rows.next()) count += rows.getLong(1) == count ? 1 : 1000000;
+      }
       by.commit();
       return String.valueOf(count);
     } finally { by.setAutoCommit(true); }
@@ -88,15 +98,21 @@ public class Jdbc {
     Connection by = DriverManager.getConnection(words[0]);
     DatabaseMetaData known = by.getMetaData();
     check("product", "PostgreSQL", known::getDatabaseProductName);
-    check("rows", "1|bolt|10|true 2|nut|null|true 3|null|0|false", () -> rows(by.createStatement().executeQuery("SELECT * FROM parts ORDER BY id"), 1, 2, 3, 4));
+    check("rows", "1|bolt|10|true 2|nut|null|true 3|null|0|false",
+        () -> rows(by.createStatement().executeQuery("SELECT * FROM parts ORDER BY id"), 1, 2, 3, 4));
     check("a join of three kinds", "Ada|4|true Bo, Jr.|5|false Ada|6|true", () -> rows(by.createStatement().executeQuery(
-        "SELECT p.name, s.amount, t.active FROM people p JOIN sales s ON s.who = p.id JOIN staff t ON t.id = p.id ORDER BY amount"), 1, 2, 3));
+        "SELECT p.name, s.amount, t.active FROM people p JOIN sales s ON s.who = p.id JOIN staff t ON t.id = p.id ORDER BY amount"),
+        1, 2, 3));
     String one = "1|bolt|true|10", two = "2|nut|true|null", three = "3|null|false|0";
-    check("a prepared statement, eight times (binary from the fifth)", String.join(" ", one, two, three, one, two, three, one, two), () -> prepared(by));
+    check("a prepared statement, eight times (binary from the fifth)", String.join(" ", one, two, three, one, two, three, one, two),
+        () -> prepared(by));
     check("metadata of a prepared statement", "id:int8 name:text live:bool int8 bool text", () -> described(by));
-    check("getTables", "big mid orders parts people sales staff", () -> rows(known.getTables(null, "public", "%", new String[] {"TABLE", "VIEW", "FOREIGN TABLE"}), 3));
-    check("getTables by a pattern", "parts people", () -> rows(known.getTables(null, null, "p%", new String[] {"TABLE", "FOREIGN TABLE"}), 3));
-    check("getColumns", "id|-5|int8|NO name|12|text|YES active|-7|bool|YES", () -> rows(known.getColumns(null, "public", "staff", "%"), 4, 5, 6, 18));
+    check("getTables", "big mid orders parts people sales staff",
+        () -> rows(known.getTables(null, "public", "%", new String[] {"TABLE", "VIEW", "FOREIGN TABLE"}), 3));
+    check("getTables by a pattern", "parts people",
+        () -> rows(known.getTables(null, null, "p%", new String[] {"TABLE", "FOREIGN TABLE"}), 3));
+    check("getColumns", "id|-5|int8|NO name|12|text|YES active|-7|bool|YES",
+        () -> rows(known.getColumns(null, "public", "staff", "%"), 4, 5, 6, 18));
     check("getSchemas", "true", () -> String.valueOf(rows(known.getSchemas(), 1).contains("public")));
     check("getPrimaryKeys", "", () -> rows(known.getPrimaryKeys(null, "public", "parts"), 4));
     check("getImportedKeys", "", () -> rows(known.getImportedKeys(null, "public", "parts"), 4));
