@@ -1,4 +1,4 @@
-# make install     puts the program, fedq-shell, fedq-setup, their Python, manual pages, documents and completions below PREFIX (after DESTDIR)
+# make install     puts the program, fedq-shell, fedq-setup, fedq-gateway, their Python, manual pages, documents and completions below PREFIX (after DESTDIR)
 # make uninstall   takes them away
 # Nothing is built here: dist/fedq is the program. `./check --program` proves and builds it anew, and dist/rebuild puts it in dist/.
 PREFIX = /usr/local
@@ -17,16 +17,16 @@ help:
 
 install:
 	@$(INSTALL) -d '$(to)/bin' '$(to)/share/man/man1' '$(to)/share/doc/fedq' '$(bash)' '$(zsh)'
-	@$(INSTALL) -m 755 dist/fedq fedq-shell fedq-setup '$(to)/bin'
+	@$(INSTALL) -m 755 dist/fedq fedq-shell fedq-setup fedq-gateway '$(to)/bin'
 	@$(INSTALL) -m 644 docs/*.1 '$(to)/share/man/man1'
 	@$(INSTALL) -m 644 README.md CHANGELOG.md LICENSE docs/*.md '$(to)/share/doc/fedq'
 	@$(INSTALL) -m 644 completions/fedq.bash '$(bash)/fedq'
-	@ln -sf fedq '$(bash)/fedq-shell' && ln -sf fedq '$(bash)/fedq-setup'
+	@for tool in fedq-shell fedq-setup fedq-gateway; do ln -sf fedq '$(bash)'/$$tool || exit 1; done
 	@$(INSTALL) -m 644 completions/_fedq '$(zsh)/_fedq'
 	@for room in $(rooms); do $(INSTALL) -d '$(to)/share/fedq/python'/$$room && \
 	    $(INSTALL) -m 644 python/$$room/*.py '$(to)/share/fedq/python'/$$room || exit 1; done
 
 uninstall:
-	@rm -f '$(to)/bin/fedq' '$(to)/bin/fedq-shell' '$(to)/bin/fedq-setup' '$(zsh)/_fedq'
-	@rm -f '$(bash)/fedq' '$(bash)/fedq-shell' '$(bash)/fedq-setup' $(patsubst docs/%,'$(to)/share/man/man1/%',$(wildcard docs/*.1))
+	@rm -f '$(to)/bin/fedq' '$(to)/bin/fedq-shell' '$(to)/bin/fedq-setup' '$(to)/bin/fedq-gateway' '$(zsh)/_fedq'
+	@rm -f '$(bash)/fedq' '$(bash)/fedq-shell' '$(bash)/fedq-setup' '$(bash)/fedq-gateway' $(patsubst docs/%,'$(to)/share/man/man1/%',$(wildcard docs/*.1))
 	@rm -rf '$(to)/share/doc/fedq' '$(to)/share/fedq'

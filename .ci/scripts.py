@@ -7,9 +7,10 @@ import json, os, runpy, subprocess, sys
 from concurrent.futures import ThreadPoolExecutor
 
 # The longest first: that of folders waits for the disk.
-TESTS = """folders refused_memory like_sqlite run limits soak shell driver pages cut_streams setup schemas launcher random_files exchanged random_selects install
-    hostile_names tried connections random_objects random_writes leaving random_cursors"""
+TESTS = """folders refused_memory like_sqlite run limits gateway soak shell driver pages cut_streams setup schemas launcher random_files exchanged random_selects
+    install hostile_names replaced tried connections random_objects random_writes leaving random_cursors"""
 SCRIPTS = [*(f"tests/{it}" for it in TESTS.split()), "examples/run", "docs/draw"]
+LONG = ["tests/gateway_long", "tests/clients"]  # that ./check alone runs: they take longer than all others together, or need what may not be installed
 SECONDS = 3600  # after which a script has failed
 
 def ended(script, program):
@@ -27,13 +28,15 @@ def ended(script, program):
         passed, failed, lines = 0, 1, [f"it had not ended after {SECONDS} seconds"]
     except (ValueError, TypeError):
         passed, failed, lines = 0, 1, [f"it ended with status {ran.returncode} and no count of tests: {ran.stdout[-2000:]}"]
-    return passed, failed, "\n".join([f"{script}: {passed} passed, {failed} failed", *lines])
+    # (on the line of the count: what was not tried is not to be taken as passed)
+    left_out = [it for it in lines if it.startswith("not installed: ")]
+    return passed, failed, "\n".join(["; ".join([f"{script}: {passed} passed, {failed} failed", *left_out]), *(it for it in lines if it not in left_out)])
 
-def over(program):
+def over(program, scripts=(*LONG, *SCRIPTS)):
     """Runs all scripts over a program, as many at a time as there are processors and two more, since the first waits for the disk and others for a while, and
     gives of each, in their order, what `ended` does."""
     with ThreadPoolExecutor(len(os.sched_getaffinity(0)) + 2) as pool:
-        yield from pool.map(lambda it: ended(it, os.path.abspath(program)), SCRIPTS)
+        yield from pool.map(lambda it: ended(it, os.path.abspath(program)), scripts)
 
 def sources_of_dist():
     """The sum of the sources that the program in dist/ was made of, the kit that made it, and the sum of those that stand here."""
@@ -49,10 +52,10 @@ def told(found, counts=(0, 0)):
     return counts
 
 def quick(program="dist/fedq"):
-    """Runs all that needs no prover over the program in dist/, where that is of the sources that stand here."""
+    """Runs all that needs no prover but `LONG` over the program in dist/, where that is of the sources that stand here."""
     sources, _, here = sources_of_dist()
     first = (1, 0, f"{program} is of these sources") if sources == here else (0, 1, f"{program} is of other sources: dist/rebuild makes it anew")
-    passed, failed = told(over(program), told([first]))
+    passed, failed = told(over(program, SCRIPTS), told([first]))
     print(f"nothing was proved\n{passed} passed, {failed} failed", flush=True)
     return 1 if failed else 0
 

@@ -19,7 +19,7 @@ _fedq() {
     case ${COMP_WORDS[0]##*/} in
         fedq-setup) words='--csv --jsonl --sqlite --out --write --write-acl --check --columns --header --null --members --help' ;;
         fedq-shell) words='--csv --jsonl --sqlite --list --init --owner --command --file --stop --user --connect --format --expanded --null --output --version --help' ;;
-        fedq-gateway) words='--port --host --socket --users --add-user --lines-port --spool-bytes --cert --key --verbose --csv --jsonl --sqlite --list --init --owner --help' ;;
+        fedq-gateway) words='--port --host --socket --users --add-user --lines-port --lines-without-passwords --spool-bytes --cert --key --verbose --csv --jsonl --sqlite --list --init --owner --help' ;;
         *)
             case ${COMP_WORDS[1]} in
                 run) words='--csv --jsonl --sqlite --list --init --owner --help' ;;

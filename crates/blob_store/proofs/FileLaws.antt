@@ -8,7 +8,7 @@ use Rattle.blob_store.specs.Names.{is_blob_name}
 use Rattle.blob_store.specs.Shelves.{Known, after_writing, Fails, Replaces}
 use Rattle.blob_store.specs.Known.{KnownBoth}
 use Rattle.blob_store.specs.Drives.{Drive}
-use Rattle.blob_store.specs.Files.{path_in, draft_name, most_bytes, standing_in, under_in, folder_shelf, FindsFile, PutsBlob, KeepsBlobs, Keeps, blob_fault}
+use Rattle.blob_store.specs.Files.{path_in, draft_name, most_bytes, standing_in, under_in, folder_shelf, FindsFile, PutsBlob, KeepsBlobs, PutsAll, blob_fault}
 use Rattle.blob_store.specs.declared.blobs.BlobFault.{BlobFault}
 use Rattle.blob_store.specs.declared.blobs.BlobFault.TheVariants as blob_faults
 use Rattle.blob_store.specs.declared.marks.Mark.{Mark}
@@ -43,7 +43,7 @@ finds_keeps None (Some new) folder path result h = elim h [ ]
 finds_keeps (Some old) None folder path result h = elim h [ ]
 finds_keeps (Some old) (Some new) folder path (Ok found) h = ap (λ d. standing_in d folder) h.0
 finds_keeps (Some old) (Some new) folder path (Err blob_faults.NoMemory) h = ap (λ d. standing_in d folder) h
-finds_keeps (Some old) (Some new) folder path (Err blob_faults.Device) h = ap (λ d. standing_in d folder) h
+finds_keeps (Some old) (Some new) folder path (Err blob_faults.Device) h = elim h [ inl e ↦ ap (λ d. standing_in d folder) e | inr p ↦ ap (λ d. standing_in d folder) p.0 ]
 finds_keeps (Some old) (Some new) folder path (Err blob_faults.Worn) h = elim h [ ]
 
 pub keeps_under : (a b : Option Drive) (folder name : List ℕ) (mark : Mark) (bytes : List ℕ) (fault : BlobFault) → KnownBoth a b (λ old new. KeepsBlobs old new folder name mark bytes fault) → under_in b folder ≡ under_in a folder
@@ -57,7 +57,7 @@ puts_there None None folder name mark now bytes is h = refl
 puts_there None (Some new) folder name mark now bytes is h = elim h [ ]
 puts_there (Some old) None folder name mark now bytes is h = elim h [ ]
 puts_there (Some old) (Some new) folder name mark now bytes is h =
-    rw is (ap (λ e. Known (option_map (λ x. take most_bytes x.bytes) e)) h.puts.there ∙ ap (λ xs. Known (Some xs)) (take_all most_bytes bytes h.size))
+    rw is (ap (λ e. Known (option_map (λ x. take most_bytes x.bytes) e)) h.puts.there ∙ ap (λ xs. Known (Some (take most_bytes xs))) h.puts.content ∙ ap (λ xs. Known (Some xs)) (take_all most_bytes bytes h.size))
 
 pub puts_others : (a b : Option Drive) (folder name : List ℕ) (mark now : Mark) (bytes : List ℕ) → KnownBoth a b (λ old new. PutsBlob old new folder name mark now bytes) → (other : List ℕ) → other ≢ name → under_in b folder other ≡ under_in a folder other
 puts_others None None folder name mark now bytes h other ne = refl
@@ -91,27 +91,27 @@ unfolding is_worn
 not_device_worn e = false≢true (ap is_worn e)
 
 -- a file that is not replaced is a blob that is not
-pub keeps_blobs : (a b : Option Drive) (folder name : List ℕ) (mark : Mark) (bytes : List ℕ) (fault : PutFault) → length bytes ≤ most_bytes → KnownBoth a b (λ old new. Keeps old new (path_in folder draft_name) (path_in folder name) mark fault) → KnownBoth a b (λ old new. KeepsBlobs old new folder name mark bytes (blob_fault fault))
+pub keeps_blobs : (a b : Option Drive) (folder name : List ℕ) (mark : Mark) (bytes : List ℕ) (fault : PutFault) → length bytes ≤ most_bytes → KnownBoth a b (λ old new. PutsAll old new (path_in folder draft_name) (path_in folder name) mark bytes (Err fault)) → KnownBoth a b (λ old new. KeepsBlobs old new folder name mark bytes (blob_fault fault))
 keeps_blobs None None folder name mark bytes fault size h = h
 keeps_blobs None (Some new) folder name mark bytes fault size h = elim h [ ]
 keeps_blobs (Some old) None folder name mark bytes fault size h = elim h [ ]
 keeps_blobs (Some old) (Some new) folder name mark bytes NoMemory size h = record {
   not_worn = λ e. not_memory_worn e;
-  others = h.others;
+  others = h.puts.others;
   device = λ e. elim (not_memory_device e) [ ];
-  cleared = λ there other. let m = h.cleared there other in omega (arith, m);
+  cleared = λ there other. let m = h.puts.cleared there other in omega (arith, m);
 }
 keeps_blobs (Some old) (Some new) folder name mark bytes Failed size h = record {
   not_worn = λ e. not_device_worn e;
-  others = h.others;
-  device = λ e same. let m = h.failed refl in omega (arith, m, same);
-  cleared = λ there other. let m = h.cleared there other in omega (arith, m);
+  others = h.puts.others;
+  device = λ e same ne fits writable unchanged. elim (h.puts.failed refl) [ inl m ↦ absurd (omega (arith, m, same)) | inr t ↦ ne t ];
+  cleared = λ there other. let m = h.puts.cleared there other in omega (arith, m);
 }
 keeps_blobs (Some old) (Some new) folder name mark bytes Barred size h = record {
   not_worn = λ e. not_device_worn e;
-  others = h.others;
-  device = λ e same fits. h.barred refl;
-  cleared = λ there other. let m = h.cleared there other in omega (arith, m);
+  others = h.puts.others;
+  device = λ e same ne fits. h.puts.barred refl;
+  cleared = λ there other. let m = h.puts.cleared there other in omega (arith, m);
 }
 
 -- what a call that did nothing tells of the store

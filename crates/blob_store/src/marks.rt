@@ -15,6 +15,8 @@ pub enum Mark {
     Absent,
     /// This.
     Seen(Stamp),
+    /// It was replaced, and could not be looked at afterwards: it is to be read before it is replaced again.
+    Unseen,
 }
 
 /// What was seen last of the files of a folder, by their names.

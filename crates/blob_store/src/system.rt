@@ -1,10 +1,10 @@
-//! The files of the system as a disk.
+//! The files of the system as a disk: each method is one call of the kit, without a loop and without a comparison of what it found.
 //!
-//! It tells nothing: whoever else writes the files, what the system does and what it keeps is not known. That each call does what `Disk`
-//! says is trusted.
+//! Nothing is known of them: who else writes the files, what the system does and what it keeps. That each call does what `Disk` says is
+//! trusted.
 ghost use Rattle.std.specs.Prelude.{None};
 
-use crate::disk::{Disk, DiskFault, Disks, Found, Kind, Stamp, Told};
+use crate::disk::{Disk, DiskFault, Disks, Kind, LockTry, Stamp, Time, Told};
 use std::alloc::{AllocError, Global};
 use std::fs::{File, Metadata, OpenOptions, Permissions, TryLockError};
 use std::io::{Read, Write};
@@ -12,43 +12,38 @@ use std::os::unix::fs::{MetadataExt, OpenOptionsExt, PermissionsExt, fchown};
 use std::time::Duration;
 use std::{fs, io, thread};
 
-// How often a folder that another program holds is asked for, with ten milliseconds between: five seconds in all.
-const TRIES: u32 = 500;
-
-// The folder that is held: its handle, which has the lock, if there is one.
+/// The files of the system, by their handles: the folder that is open, the draft, and the file that is read.
 #[derive(Drop)]
-struct Hold {
-    folder: File,
-    locked: bool,
-}
-
-/// The files of the system. One folder may be held and one file be in the making at a time.
-#[derive(Drop)]
-pub struct SystemDisk {
+pub struct SystemCalls {
     rt: HostRuntime,
-    held: Option<Hold>,
-    made: Option<File>,
+    folder: Option<File>,
+    draft: Option<File>,
+    file: Option<File>,
 }
 
 impl Disks for HostRuntime {
-    type Disk = SystemDisk;
+    type Disk = SystemCalls;
 
     ghost stands = { λ _. None };
 
-    fn disk(&self) -> Result<SystemDisk, AllocError> {
-        Ok(SystemDisk {
+    fn disk(&self) -> Result<SystemCalls, AllocError> {
+        Ok(SystemCalls {
             rt: self.clone()?,
-            held: None,
-            made: None,
+            folder: None,
+            draft: None,
+            file: None,
         })
     }
 }
 
-// Why a call did nothing.
-fn fault_of(error: io::Error) -> DiskFault {
-    match error.kind() {
-        io::ErrorKind::OutOfMemory => DiskFault::NoMemory,
-        _ => DiskFault::Failed,
+// The answer of a call of the kit.
+fn answer<T: Drop>(outcome: io::Result<T>) -> Result<T, DiskFault> {
+    match outcome {
+        Ok(it) => Ok(it),
+        Err(error) => match error.kind() {
+            io::ErrorKind::OutOfMemory => Err(DiskFault::NoMemory),
+            _ => Err(DiskFault::Failed),
+        },
     }
 }
 
@@ -70,182 +65,127 @@ fn told_of(metadata: &Metadata) -> Told {
             device: metadata.dev(),
             inode: metadata.ino(),
             length: metadata.len(),
-            seconds: metadata.mtime(),
-            nanoseconds: metadata.mtime_nsec(),
+            written: Time {
+                seconds: metadata.mtime(),
+                nanoseconds: metadata.mtime_nsec(),
+            },
+            changed: Time {
+                seconds: metadata.ctime(),
+                nanoseconds: metadata.ctime_nsec(),
+            },
         },
     }
 }
 
-// Gives a file the group and, where the program may, the owner of another, and then its mode.
-fn give_rights(file: &File, like: &Told) -> io::Result<()> {
-    let now = file.metadata()?;
-    if now.gid() != like.group {
-        fchown(file, None, Some(like.group))?;
-    }
-    if now.uid() != like.owner {
-        // (only a program with the right to does; the file is the program's own otherwise)
-        let _ = fchown(file, Some(like.owner), None);
-    }
-    file.set_permissions(Permissions::from_mode(like.mode))
-}
-
-// The first bytes of a file that is open. A pipe or a device that took its place since it was looked at is refused unread.
-fn read_some(file: File, alloc: Global, most: u64) -> Result<Found, DiskFault> {
-    let told = match file.metadata() {
-        Ok(metadata) => told_of(&metadata),
-        Err(error) => return Err(fault_of(error)),
-    };
-    if told.kind != Kind::Regular {
-        return Err(DiskFault::Failed);
-    }
-    let mut bytes = Vec::new(alloc);
-    match file.take(most).read_to_end(&mut bytes) {
-        Ok(_) => Ok(Found { told, bytes }),
-        Err(error) => Err(fault_of(error)),
+impl SystemCalls {
+    fn draft(&self) -> Result<&File, DiskFault> {
+        self.draft.as_ref().ok_or(DiskFault::Failed)
     }
 }
 
-// Takes the lock of a folder, where another program has it once it is free. It is refused where it is not free in time, and where the
-// system of files has no locks for folders.
-fn lock(rt: &HostRuntime, folder: &File) -> Result<(), TryLockError> {
-    for _ in 0..TRIES {
-        match folder.try_lock() {
-            Err(TryLockError::WouldBlock) => thread::sleep(rt, Duration::from_millis(10)),
-            answer => return answer,
-        }
-    }
-    Err(TryLockError::WouldBlock)
-}
-
-impl SystemDisk {
-    // Whether the file that is being made stands under a path.
-    fn stands_at(&self, path: &str) -> bool {
-        let Some(made) = &self.made else {
-            return false;
-        };
-        match (made.metadata(), fs::symlink_metadata(&self.rt, path)) {
-            (Ok(made), Ok(there)) => made.dev() == there.dev() && made.ino() == there.ino(),
-            _ => false,
-        }
-    }
-}
-
-impl Disk for SystemDisk {
+impl Disk for SystemCalls {
     ghost drive = { λ _. None };
+
+    ghost log = { λ _. None };
 
     fn look(&mut self, path: &str) -> Result<Option<Told>, DiskFault> {
         match fs::symlink_metadata(&self.rt, path) {
+            Err(error) if error.kind() == io::ErrorKind::NotFound => Ok(None),
+            outcome => Ok(Some(told_of(&answer(outcome)?))),
+        }
+    }
+
+    fn look_draft(&mut self, path: &str) -> Result<Option<Told>, DiskFault> {
+        match fs::symlink_metadata(&self.rt, path) {
             Ok(metadata) => Ok(Some(told_of(&metadata))),
             Err(error) if error.kind() == io::ErrorKind::NotFound => Ok(None),
-            Err(error) => Err(fault_of(error)),
+            Err(_) => Err(DiskFault::Failed),
         }
     }
 
-    fn read(&mut self, alloc: Global, path: &str, most: u64) -> Result<Option<Found>, DiskFault> {
-        let Some(told) = self.look(path)? else {
-            return Ok(None);
-        };
-        // (no pipe is opened: it would wait for a writer)
-        let kind = match told.kind {
-            Kind::Link => match fs::metadata(&self.rt, path) {
-                Ok(metadata) => told_of(&metadata).kind,
-                Err(error) => return Err(fault_of(error)),
-            },
-            kind => kind,
-        };
-        if kind != Kind::Regular {
-            return Err(DiskFault::Failed);
-        }
-        match File::open(&self.rt, path) {
-            Ok(file) => Ok(Some(read_some(file, alloc, most)?)),
-            Err(error) => Err(fault_of(error)),
-        }
-    }
-
-    fn hold(&mut self, folder: &str) -> Result<bool, DiskFault> {
-        let folder = match File::open(&self.rt, folder) {
-            Ok(folder) => folder,
-            Err(error) => return Err(fault_of(error)),
-        };
-        let locked = match lock(&self.rt, &folder) {
-            Ok(()) => true,
-            Err(TryLockError::WouldBlock) => return Err(DiskFault::Failed),
-            Err(TryLockError::Error(error)) => match fault_of(error) {
-                DiskFault::NoMemory => return Err(DiskFault::NoMemory),
-                DiskFault::Failed => false,
-            },
-        };
-        self.held = Some(Hold { folder, locked });
-        Ok(locked)
+    fn follow(&mut self, path: &str) -> Result<Told, DiskFault> {
+        Ok(told_of(&answer(fs::metadata(&self.rt, path))?))
     }
 
     fn probe(&mut self, path: &str) -> Result<(), DiskFault> {
         // (to read, too: then no pipe waits for a reader)
         let mut options = OpenOptions::new();
         options.read(true).write(true);
-        match options.open(&self.rt, path) {
-            Ok(_) => Ok(()),
-            Err(error) => Err(fault_of(error)),
-        }
-    }
-
-    fn make(&mut self, path: &str, like: Option<Told>) -> Result<(), DiskFault> {
-        let mode = if like.is_some() { 0o600 } else { 0o666 };
-        let mut options = OpenOptions::new();
-        options.write(true).create_new(true).mode(mode);
-        let file = match options.open(&self.rt, path) {
-            Ok(file) => file,
-            Err(error) => return Err(fault_of(error)),
-        };
-        if let Some(like) = like {
-            if let Err(error) = give_rights(&file, &like) {
-                let _ = fs::remove_file(&self.rt, path);
-                return Err(fault_of(error));
-            }
-        }
-        self.made = Some(file);
+        answer(options.open(&self.rt, path))?;
         Ok(())
     }
 
-    fn write(&mut self, _path: &str, bytes: &[u8]) -> Result<(), DiskFault> {
-        let Some(file) = &mut self.made else {
-            return Err(DiskFault::Failed);
+    fn open_folder(&mut self, folder: &str) -> Result<(), DiskFault> {
+        self.folder = Some(answer(File::open(&self.rt, folder))?);
+        Ok(())
+    }
+
+    fn try_lock(&mut self) -> LockTry {
+        let Some(folder) = &self.folder else {
+            return LockTry::Refused(0);
         };
-        match file.write_all(bytes) {
-            Ok(()) => Ok(()),
-            Err(error) => Err(fault_of(error)),
+        match folder.try_lock() {
+            Ok(()) => LockTry::Taken,
+            Err(TryLockError::WouldBlock) => LockTry::Busy,
+            Err(TryLockError::Error(error)) => match error.raw_os_error() {
+                Some(code) => LockTry::Refused(code.unsigned_abs()),
+                None => LockTry::Refused(0),
+            },
         }
     }
 
-    fn sync(&mut self, _path: &str) -> Result<Told, DiskFault> {
-        let Some(file) = &self.made else {
+    fn wait(&mut self) {
+        thread::sleep(&self.rt, Duration::from_millis(10));
+    }
+
+    fn create(&mut self, path: &str, mode: u32) -> Result<(), DiskFault> {
+        let mut options = OpenOptions::new();
+        options.write(true).create_new(true).mode(mode);
+        self.draft = Some(answer(options.open(&self.rt, path))?);
+        Ok(())
+    }
+
+    fn stat_draft(&mut self, _path: &str) -> Result<Told, DiskFault> {
+        let Some(draft) = &self.draft else {
             return Err(DiskFault::Failed);
         };
-        if let Err(error) = file.sync_all() {
-            return Err(fault_of(error));
-        }
-        match file.metadata() {
+        match draft.metadata() {
             Ok(metadata) => Ok(told_of(&metadata)),
-            Err(error) => Err(fault_of(error)),
+            Err(_) => Err(DiskFault::Failed),
         }
+    }
+
+    fn set_mode(&mut self, _path: &str, mode: u32) -> Result<(), DiskFault> {
+        answer(self.draft()?.set_permissions(Permissions::from_mode(mode)))
+    }
+
+    fn set_group(&mut self, _path: &str, group: u32) -> Result<(), DiskFault> {
+        answer(fchown(self.draft()?, None, Some(group)))
+    }
+
+    fn set_owner(&mut self, _path: &str, owner: u32) -> bool {
+        match &self.draft {
+            Some(draft) => fchown(draft, Some(owner), None).is_ok(),
+            None => false,
+        }
+    }
+
+    fn write(&mut self, _path: &str, bytes: &[u8]) -> Result<(), DiskFault> {
+        match &mut self.draft {
+            Some(draft) => answer(draft.write_all(bytes)),
+            None => Err(DiskFault::Failed),
+        }
+    }
+
+    fn sync(&mut self, _path: &str) -> Result<(), DiskFault> {
+        answer(self.draft()?.sync_all())
     }
 
     fn rename(&mut self, from: &str, to: &str) -> Result<(), DiskFault> {
-        // (whoever knows nothing of the lock may have put another file there)
-        if !self.stands_at(from) {
-            return Err(DiskFault::Failed);
-        }
-        match fs::rename(&self.rt, from, to) {
-            Ok(()) => Ok(()),
-            Err(error) => Err(fault_of(error)),
-        }
+        answer(fs::rename(&self.rt, from, to))
     }
 
     fn remove(&mut self, path: &str) -> Result<(), DiskFault> {
-        let locked = self.held.as_ref().is_some_and(|held| held.locked);
-        if !locked && !self.stands_at(path) {
-            return Err(DiskFault::Failed);
-        }
         match fs::remove_file(&self.rt, path) {
             Ok(()) => Ok(()),
             Err(error) if error.kind() == io::ErrorKind::NotFound => Ok(()),
@@ -254,17 +194,42 @@ impl Disk for SystemDisk {
     }
 
     fn settle(&mut self) -> Result<(), DiskFault> {
-        let Some(held) = &self.held else {
+        let Some(folder) = &self.folder else {
             return Err(DiskFault::Failed);
         };
-        match held.folder.sync_all() {
+        match folder.sync_all() {
             Ok(()) => Ok(()),
             Err(_) => Err(DiskFault::Failed),
         }
     }
 
     fn release(&mut self) {
-        self.made = None;
-        self.held = None;
+        self.draft = None;
+        self.folder = None;
+    }
+
+    fn open_file(&mut self, path: &str) -> Result<(), DiskFault> {
+        self.file = Some(answer(File::open(&self.rt, path))?);
+        Ok(())
+    }
+
+    fn stat_file(&mut self, _path: &str) -> Result<Told, DiskFault> {
+        match &self.file {
+            Some(file) => Ok(told_of(&answer(file.metadata())?)),
+            None => Err(DiskFault::Failed),
+        }
+    }
+
+    fn read(&mut self, alloc: Global, _path: &str, most: u64) -> Result<Vec<u8>, DiskFault> {
+        let Some(file) = &mut self.file else {
+            return Err(DiskFault::Failed);
+        };
+        let mut bytes = Vec::new(alloc);
+        answer(Read::by_ref(file).take(most).read_to_end(&mut bytes))?;
+        Ok(bytes)
+    }
+
+    fn close_file(&mut self) {
+        self.file = None;
     }
 }

@@ -1,6 +1,7 @@
 -- Connections to a port that were served.
-use Rattle.std.proofs.Common.{◌≡◌, ℕ, Bool, true, List, [], ◌++◌, ◌+◌, length, Option, Result, Ok, Err, sym, ap, ◌∙◌, subst, append-nil, arith}
+use Rattle.std.proofs.Common.{◌≡◌, ℕ, Bool, true, List, [], ◌∷◌, ◌++◌, ◌+◌, length, Option, Result, Ok, Err, sym, ap, ◌∙◌, subst, append-nil, arith}
 use Rattle.std.specs.Prelude.{OnOk}
+use Rattle.std.proofs.lemmas.List.Elements.{All-nil, All-cons}
 use Rattle.std.specs.Io.KnownBytes.{Appends}
 use Rattle.med_session.specs.Engine.{Shown}
 use Rattle.fed_cli.specs.Exits.{TellsText}
@@ -10,20 +11,28 @@ use Rattle.fed_stream.specs.declared.source.GivenUp.{GivenUp}
 use Rattle.fed_stream.proofs.Known.{known_then, known_map}
 use Rattle.fed_stream.proofs.Counts.{does_more}
 use Rattle.fed_stream.specs.Streams.{Stream}
-use Rattle.fed_cli.specs.Turns.{Turn, Ends, AreServed}
-use Rattle.fed_cli.specs.Listens.{Listens, CallsPort, listened, port_line}
+use Rattle.fed_stream.specs.Guards.{IsFresh, guarded}
+use Rattle.fed_stream.specs.declared.guarded.Guarded.{Guarded}
+use Rattle.fed_cli.specs.Turns.{Turn, Moves, AreTaken, Ends, AreServed}
+use Rattle.fed_cli.specs.Listens.{AreFresh, Listens, CallsPort, listened, port_line}
 use Rattle.fed_cli.specs.declared.turns.AcceptFault.{AcceptFault}
 use Rattle.fed_cli.specs.declared.listening.ListenFault.{ListenFault}
 use Rattle.fed_cli.specs.declared.listening.ListenFault.TheVariants as faults
 
+-- what is taken fresh is fresh
+all_fresh : {C R W : Type 0} (closes : Moves C (Guarded R) W) (old new : C) (turns : List (Turn (Guarded R) W)) → AreTaken (λ _ reader _ _. IsFresh reader) closes old turns new → AreFresh turns
+all_fresh {C} {R} {W} closes old new [] taken = All-nil (λ (t : Turn (Guarded R) W). IsFresh t.reader)
+all_fresh {C} {R} {W} closes old new (t ∷ turns) taken =
+    All-cons (λ (t : Turn (Guarded R) W). IsFresh t.reader) t turns taken.2 (all_fresh closes taken.1 new turns taken.4)
+
 -- the port was told, and these connections were served
-pub heard : {C R W : Type 0} (refuses : C → C → Type 0) (remaining : R → Option (List ℕ)) (contents : W → Option (List ℕ)) (turns : List (Turn R W)) (last back : C) (came : Result (Unit {0}) AcceptFault) (result : Result (Unit {0}) ListenFault) (old new : Shown) (port count : ℕ) (is_told : Bool) (output errors : Stream)
-    → result ≡ listened came → Appends output.before output.after (port_line port) → Ends refuses count (length turns) last came back → AreServed remaining contents old turns new is_told errors
-    → Listens remaining contents old port count result new is_told output errors
-heard refuses remaining contents turns last back (Ok done) result old new port count is_told output errors same line ends served =
-    subst (λ r. Listens remaining contents old port count r new is_told output errors) (sym same) (line, (turns, ends.0, served))
-heard refuses remaining contents turns last back (Err fault) result old new port count is_told output errors same line ends served =
-    subst (λ r. Listens remaining contents old port count r new is_told output errors) (sym same) (line, (turns, ends.0, served))
+pub heard : {C R W : Type 0} (refuses : C → C → Type 0) (closes : Moves C (Guarded R) W) (remaining : R → Option (List ℕ)) (contents : W → Option (List ℕ)) (turns : List (Turn (Guarded R) W)) (first last back : C) (came : Result (Unit {0}) AcceptFault) (result : Result (Unit {0}) ListenFault) (old new : Shown) (port count : ℕ) (is_told : Bool) (output errors : Stream)
+    → result ≡ listened came → Appends output.before output.after (port_line port) → AreTaken (λ _ reader _ _. IsFresh reader) closes first turns last → Ends refuses count (length turns) last came back
+    → AreServed (guarded remaining) contents old turns new is_told errors → Listens remaining contents old port count result new is_told output errors
+heard refuses closes remaining contents turns first last back (Ok done) result old new port count is_told output errors same line taken ends served =
+    subst (λ r. Listens remaining contents old port count r new is_told output errors) (sym same) (line, (turns, ends.0, all_fresh closes first last turns taken, served))
+heard refuses closes remaining contents turns first last back (Err fault) result old new port count is_told output errors same line taken ends served =
+    subst (λ r. Listens remaining contents old port count r new is_told output errors) (sym same) (line, (turns, ends.0, all_fresh closes first last turns taken, served))
 
 -- a text that was told whole
 pub told_whole : (s : Stream) (told : Bool) (text : List ℕ) → told ≡ true → TellsText told s text → Appends s.before s.after text

@@ -1,5 +1,5 @@
 -- What is served over TCP.
-use Rattle.std.specs.Prelude.{◌≡◌, ◌<◌, ◌≤◌, ℕ, Bool, true, false, List, [], ◌∷◌, ◌++◌, length, codes, decimal, Option, Result, Ok, Err, OnOk}
+use Rattle.std.specs.Prelude.{◌≡◌, ◌<◌, ◌≤◌, ℕ, Bool, true, false, List, [], ◌∷◌, ◌++◌, length, codes, decimal, Option, Result, Ok, Err, OnOk, All}
 use Rattle.std.specs.Io.KnownBytes.{Appends}
 use Rattle.std.specs.Net.Addr.{ipv4_octets}
 use Rattle.std.specs.Net.Socket.{socket_ip}
@@ -11,7 +11,9 @@ use Rattle.fed_cli.specs.Exits.{TellsText}
 use Rattle.fed_stream.specs.Outlets.{Outlet, Does, faults_at_last}
 use Rattle.fed_stream.specs.declared.source.GivenUp.{GivenUp}
 use Rattle.fed_stream.specs.declared.source.GivenUp.TheVariants as given_up
+use Rattle.fed_stream.specs.Guards.{IsFresh, guarded}
 use Rattle.fed_stream.specs.Streams.{Stream, IsUntouched}
+use Rattle.fed_stream.specs.declared.guarded.Guarded.{Guarded}
 use Rattle.fed_cli.specs.Turns.{Turn, AreServed}
 use Rattle.fed_cli.specs.declared.turns.AcceptFault.{AcceptFault}
 use Rattle.fed_cli.specs.declared.listening.ListenFault.{ListenFault}
@@ -49,8 +51,13 @@ pub record CallsPort (old new : Outlet) (result : Result (Unit {0}) GivenUp) : T
   pub too_many : result ≡ Err given_up.TooMany → 4294967295 ≤ interruptions
   pub flushed : OnOk result (new.flushed ≡ length new.bytes)
 
+-- each of these connections was taken with nothing read of it
+abbrev pub AreFresh : {R W : Type 0} → List (Turn (Guarded R) W) → Type 0
+AreFresh {R} {W} turns = All (λ (t : Turn (Guarded R) W). IsFresh t.reader) turns
+
 -- So many connections to a port were wanted, and it came to this. Where nothing listens, nothing was told. Else the port's line was, or a
--- front of it at a write fault; then so many connections were served, or fewer, and no further one could be taken.
+-- front of it at a write fault; then so many connections were served, or fewer, and no further one could be taken. Each is guarded against
+-- request lines of HTTP from its first byte on: the stream that is served is what its guard has left.
 abbrev pub Listens : {R W : Type 0} → (R → Option (List ℕ)) → (W → Option (List ℕ)) → Shown → ℕ → ℕ → Result (Unit {0}) ListenFault
     → Shown → Bool → Stream → Stream → Type 0
 Listens remaining contents old port count (Err (faults.CannotListen told)) new is_told output errors =
@@ -59,7 +66,7 @@ Listens remaining contents old port count (Err faults.Write) new is_told output 
     TellsText false output (port_line port) × ServesNone old new is_told errors
 Listens {R} {W} remaining contents old port count (Err faults.Accept) new is_told output errors =
     Appends output.before output.after (port_line port)
-    × ((turns : List (Turn R W)) × (length turns < count) × AreServed remaining contents old turns new is_told errors)
+    × ((turns : List (Turn (Guarded R) W)) × (length turns < count) × AreFresh turns × AreServed (guarded remaining) contents old turns new is_told errors)
 Listens {R} {W} remaining contents old port count (Ok done) new is_told output errors =
     Appends output.before output.after (port_line port)
-    × ((turns : List (Turn R W)) × (length turns ≡ count) × AreServed remaining contents old turns new is_told errors)
+    × ((turns : List (Turn (Guarded R) W)) × (length turns ≡ count) × AreFresh turns × AreServed (guarded remaining) contents old turns new is_told errors)

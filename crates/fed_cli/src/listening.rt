@@ -1,6 +1,7 @@
 //! Connections over TCP.
 ghost use Rattle.std.specs.Prelude.{◌≡◌, ◌<◌, Err, IfErr, is_ok};
 ghost use Rattle.std.specs.Net.Socket.{socket_port};
+ghost use Rattle.fed_stream.specs.Guards.{IsFresh};
 ghost use Rattle.fed_stream.specs.Streams.{stream};
 ghost use Rattle.fed_cli.specs.Exits.{TellsText};
 ghost use Rattle.fed_stream.specs.Known.{Known};
@@ -10,12 +11,27 @@ ghost use Rattle.med_session.specs.Prelude.{IsSound, shown};
 
 use crate::turns::{AcceptFault, Connections, Kept, serve_connections};
 use fdw_api::wishes::Wrapper2;
-use fed_stream::{GivenUp, Sink, flush, write_line};
+use fed_stream::{GivenUp, Guarded, Sink, flush, write_line};
 use itoa::Buffer;
 use med_session::Engine;
+use std::alloc::Global;
 use std::error::Error;
 use std::fmt;
-use std::net::{IpAddr, Ipv4Addr, Net, OpenListener, OpenStream, SocketAddr};
+use std::io::{ErrorKind, Read};
+use std::net::{IpAddr, Ipv4Addr, Net, OpenListener, OpenStream, Shutdown, SocketAddr};
+use std::time::Duration;
+
+/// The most reads of a connection that is closed.
+const LAST_READS: u32 = 4_096;
+
+/// The most of these reads that waited for bytes.
+const LAST_WAITS: u32 = 100;
+
+/// How long each of them waits at most, in milliseconds: all together wait for a second.
+const LAST_WAIT: u64 = 10;
+
+/// The most bytes of one of these reads.
+const LAST_PIECE: usize = 16_384;
 
 /// Why connections to a port were not all served.
 #[derive(Clone, Copy, Debug, PartialEq, Eq)]
@@ -45,46 +61,77 @@ impl fmt::Display for ListenFault {
 
 impl Error for ListenFault {}
 
-/// The connections to a port. What is taken, and what a connection gives, is the peers' doing: nothing is promised of it.
+/// The connections to a port. Each is guarded: one that begins with a request line of HTTP gives no byte. What is taken, and what a
+/// connection gives, is the peers' doing: nothing else is promised of it.
 #[derive(Drop)]
 pub struct Listening<N: Net> {
+    alloc: Global,
     listener: N::Listener,
 }
 
 impl<N: Net> Listening<N> {
     /// Listens on this port of 127.0.0.1. Refused where the port is not to be had.
-    pub fn bind(net: &N, port: u16) -> Result<Self, ListenFault>
+    pub fn bind(alloc: Global, net: &N, port: u16) -> Result<Self, ListenFault>
         ensures { IfErr result (λ fault. fault ≡ ListenFault.CannotListen port) }
     {
         match net.bind(local_address(port)) {
-            Ok(listener) => Ok(Listening { listener }),
+            Ok(listener) => Ok(Listening { alloc, listener }),
             Err(_) => Err(ListenFault::CannotListen(port)),
         }
     }
 }
 
 impl<N: Net> Connections for Listening<N> {
-    type Reader = N::Stream;
+    type Reader = Guarded<N::Stream>;
 
     type Writer = N::Stream;
 
-    ghost accepts = { λ _ _ _ _. Unit {0} };
+    ghost accepts = { λ _ reader _ _. IsFresh reader };
 
     ghost refuses = { λ _ _. Unit {0} };
 
     ghost closes = { λ _ _ _ _. Unit {0} };
 
-    fn accept(&mut self) -> Result<(N::Stream, N::Stream), AcceptFault> {
+    fn accept(&mut self) -> Result<(Guarded<N::Stream>, N::Stream), AcceptFault> {
         let Ok((reader, _)) = self.listener.accept() else {
             return Err(AcceptFault);
         };
         match reader.try_clone() {
-            Ok(writer) => Ok((reader, writer)),
+            Ok(writer) => Ok((Guarded::new(self.alloc, reader), writer)),
             Err(_) => Err(AcceptFault),
         }
     }
 
-    fn close(&mut self, _reader: N::Stream, _writer: N::Stream) {}
+    /// The peer gets the end of what was written. What it sends still is read for a second at most, and dropped: else the system would
+    /// reset the connection, and the peer could lose what was written.
+    fn close(&mut self, reader: Guarded<N::Stream>, writer: N::Stream) {
+        let _ = writer.shutdown(Shutdown::Write);
+        let mut left = reader.into_inner();
+        let wait = Duration::from_millis(LAST_WAIT);
+        if left.set_read_timeout(Some(wait)).is_ok() {
+            drain(&mut left);
+        }
+    }
+}
+
+// Reads what a peer sends still, and drops it, until the peer ends or fails, or enough was read or waited for.
+fn drain<R: Read>(reader: &mut R) {
+    let mut piece = [0u8; LAST_PIECE];
+    let mut waits = LAST_WAITS;
+    for _ in 0..LAST_READS {
+        if waits == 0 {
+            return;
+        }
+        match reader.read(&mut piece) {
+            Ok(0) => return,
+            Ok(count) if count == LAST_PIECE => {}
+            Ok(_) => waits -= 1,
+            Err(error) => match error.kind() {
+                ErrorKind::WouldBlock | ErrorKind::TimedOut | ErrorKind::Interrupted => waits -= 1,
+                _ => return,
+            },
+        }
+    }
 }
 
 // This port of 127.0.0.1.
@@ -117,7 +164,7 @@ pub fn listen_and_serve<B: Wrapper2, V: AllocGlobal + Net, O: Sink, E: Sink>(
     ensures writes { result.came ≡ Err ListenFault.Write
         → Known (O.outlet output.old) (O.outlet output.new) (λ old new. (fault : GivenUp) × CallsPort old new (Err fault)) }
 {
-    let mut listening = match Listening::<V>::bind(rt, port) {
+    let mut listening = match Listening::<V>::bind(rt.alloc(), rt, port) {
         Ok(listening) => listening,
         Err(fault) => {
             return Kept {

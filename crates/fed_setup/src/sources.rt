@@ -24,7 +24,7 @@ use source_kinds::law::{
 };
 use sqlite::{Error as DatabaseError, ErrorCode, MemStore};
 use sqlite_wrapper::SqliteWrapper;
-use sqlite_writes::{Databases, memory_database, open_database};
+use sqlite_writes::{Databases, Opened, Watch, memory_database, open_database};
 use std::alloc::Global;
 use thiserror::Error;
 use wrapper_parts::EitherSource;
@@ -126,7 +126,7 @@ fn of_memory<V: Databases + Disks>(alloc: Global) -> Result<Source<V>, OpenFault
     let Ok(conn) = memory_database(alloc) else {
         return Err(OpenFault::NoMemory);
     };
-    match SqliteWrapper::new(alloc, conn) {
+    match SqliteWrapper::new(alloc, conn, Watch::of_memory()) {
         Ok(memory) => Ok(EitherSource::Second(EitherSource::Second(EitherSource::First(memory)))),
         Err(_) => Err(OpenFault::NoMemory),
     }
@@ -139,11 +139,11 @@ fn of_file<V: Databases + Disks>(alloc: Global, rt: &V, path: &str) -> Result<So
     ensures file { IfOk result (λ s. IsSomeAnd (database_in s) (ShowsAt V.Store.Store (V.Databases.stands rt.now) path.now)) }
     ensures err { IfErr result (λ fault. fault ≡ OpenFault.CannotOpen → ToldNotOpened (V.Databases.refuses rt.now path.now)) }
 {
-    let conn = match open_database(rt, path) {
-        Ok(conn) => conn,
+    let Opened { conn, watch } = match open_database(rt, path) {
+        Ok(opened) => opened,
         Err(error) => return Err(open_fault(error)),
     };
-    match SqliteWrapper::new(alloc, conn) {
+    match SqliteWrapper::new(alloc, conn, watch) {
         Ok(file) => Ok(EitherSource::Second(EitherSource::Second(EitherSource::Second(file)))),
         Err(_) => Err(OpenFault::NoMemory),
     }

@@ -5,3 +5,4 @@ pub mod Fronts
 pub mod Streams
 pub mod Calls
 pub mod OneLine
+pub mod Guards

@@ -6,3 +6,4 @@ pub mod Parts
 pub mod Streams
 pub mod Served
 pub mod Calls
+pub mod Guards

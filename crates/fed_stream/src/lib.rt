@@ -4,12 +4,14 @@
 #![tactic(auto)]
 
 pub mod devices;
+pub mod guarded;
 pub mod memory;
 pub mod sink;
 pub mod source;
 pub mod stream;
 mod telling;
 
+pub use guarded::Guarded;
 pub use memory::{MemorySink, MemorySource};
 pub use sink::{Sink, flush, write_front};
 pub use source::{Arrival, CallFault, GivenUp, Source, read_piece};

@@ -20,7 +20,7 @@ use Rattle.list_wrapper.specs.declared.scans.Step.{Step}
 use Rattle.list_wrapper.specs.declared.scans.Walk.{Walk}
 use Rattle.list_wrapper.specs.declared.scans.Walk.TheVariants.{InTurn, Within, ByIndex, ByKeys}
 use Rattle.list_wrapper.specs.Scans.{table_listed, numbered, spec_is, params_of, left_by_keys, rows_ahead, rows_to_come, rows_at, listed_kinds, kinds_at, marked_bound, scan_is, scan_rows, mapped, list_state, NextIs, one_less, index_of, index_in, newer, Bounds, ScanFits, ScansFit}
-use Rattle.wrapper_parts.specs.declared.index.PlaceIndex.{PlaceIndex}
+use Rattle.wrapper_parts.specs.declared.sought.SoughtIndex.{SoughtIndex}
 use Rattle.wrapper_parts.specs.Scans.{is_taken, rows_at_places as rows_of_places, Serves, Stands}
 use Rattle.list_wrapper.proofs.Numbered.{numbered_fit}
 use Rattle.list_wrapper.proofs.Maps.{mapped_get, mapped_insert, mapped_remove, apart}
@@ -275,7 +275,7 @@ ends_fitting tables m n number old u q s e = split (eqb_tells q number)
 pub starts_fitting : (rows : List TableRow) (spec : Spec) (params : Tuple) (walk : Option Walk) (old : Walk) → Serves spec rows (index_of old) → Serves spec rows (index_in walk)
     → Bounds spec params rows (newer walk old)
     → Serves spec rows (index_of (newer walk old)) × Stands spec params rows 0 (index_of (newer walk old)) × Bounds spec params rows (newer walk old)
-starts_fitting rows spec params walk old was new bounds = (serves walk new, λ x w i e k up. absurd (omega arith), bounds)
+starts_fitting rows spec params walk old was new bounds = (serves walk new, λ x i k up. absurd (omega arith), bounds)
   where
     serves : (walk : Option Walk) → Serves spec rows (index_in walk) → Serves spec rows (index_of (newer walk old))
     serves None new = was
@@ -317,16 +317,16 @@ refused_begin tables bound m n staged next pulled same = record {
 }
 
 -- a walk without an index
-pub no_index_serves : (spec : Spec) (rows : List TableRow) (index : Option PlaceIndex) → index ≡ None → Serves spec rows index
-no_index_serves spec rows index e x s i f = absurd (neither index e i)
+pub no_index_serves : (spec : Spec) (rows : List TableRow) (index : Option SoughtIndex) → index ≡ None → Serves spec rows index
+no_index_serves spec rows index e x i = absurd (neither index e i)
   where
-    neither : (o : Option PlaceIndex) → o ≡ None → o ≡ Some x → ⊥
+    neither : (o : Option SoughtIndex) → o ≡ None → o ≡ Some x → ⊥
     neither None a b = cc
     neither (Some y) a b = cc
 
-pub no_index_stands : (spec : Spec) (params : Tuple) (rows : List TableRow) (at : ℕ) (index : Option PlaceIndex) → index ≡ None → Stands spec params rows at index
-no_index_stands spec params rows at index e x s i f = absurd (neither index e i)
+pub no_index_stands : (spec : Spec) (params : Tuple) (rows : List TableRow) (at : ℕ) (index : Option SoughtIndex) → index ≡ None → Stands spec params rows at index
+no_index_stands spec params rows at index e x i = absurd (neither index e i)
   where
-    neither : (o : Option PlaceIndex) → o ≡ None → o ≡ Some x → ⊥
+    neither : (o : Option SoughtIndex) → o ≡ None → o ≡ Some x → ⊥
     neither None a b = cc
     neither (Some y) a b = cc

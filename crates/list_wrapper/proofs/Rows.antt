@@ -5,10 +5,12 @@ use Rattle.med_value.specs.Datum.{Datum, Tuple, cell, tuple}
 use Rattle.med_value.specs.declared.value.Row.{Row}
 use Rattle.fdw_api.specs.Scan.{Spec, TableRow, given_row, shown_cells}
 use Rattle.wrapper_parts.specs.declared.index.PlaceIndex.{PlaceIndex}
+use Rattle.wrapper_parts.specs.declared.sought.SoughtIndex.{SoughtIndex}
 use Rattle.wrapper_parts.specs.Places.{equals, first_place, Follows}
 use Rattle.wrapper_parts.specs.Indexes.{IsIndexFrom}
-use Rattle.wrapper_parts.specs.Scans.{SoughtForm, sought, column_cells, takes, is_taken}
-use Rattle.wrapper_parts.proofs.Skipping.{skips, taken_needs}
+use Rattle.wrapper_parts.specs.Scans.{SoughtForm, form_of, column_cells, takes, is_taken, Leads, Serves}
+use Rattle.wrapper_parts.proofs.Skipping.{skips}
+use Rattle.wrapper_parts.proofs.Leading.{leads_needs}
 use Rattle.list_wrapper.specs.declared.scans.Step.{Step}
 use Rattle.list_wrapper.specs.Scans.{numbered, left_in_turn, is_spent, NextOf, Moves}
 use Rattle.list_wrapper.proofs.Numbered.{row_at, next_numbered, length_numbered}
@@ -37,24 +39,31 @@ one_more rows column at row d old new pos le e is add h =
     ∙ sym (ap (column_cells column) (next_numbered rows (at - 1) row (omega arith) e)))
     (add (column_cells column (drop at (numbered 0 rows))) (subst (λ (i : ℕ). IsIndexFrom i (column_cells column (drop at (numbered 0 rows))) old) up h))
 
+same_index : (x y : SoughtIndex) → Some x ≡ Some y → x ≡ y
+same_index x y e = cc
+
+-- an index of a column that leads a scan serves it
+pub serves_found : (spec : Spec) (rows : List TableRow) (x : SoughtIndex) → Leads spec (form_of x.found)
+    → IsIndexFrom 0 (column_cells x.found.column rows) x.places → Serves spec rows (Some x)
+serves_found spec rows x leads is y e =
+    subst (λ (z : SoughtIndex). Leads spec (form_of z.found) × IsIndexFrom 0 (column_cells z.found.column rows) z.places) (same_index x y e) (leads, is)
+
 -- an index leads to the next place
-pub moved : (spec : Spec) (params : Tuple) (rows : List TableRow) (index : Option PlaceIndex) (s : SoughtForm) (at to : ℕ)
-    → sought spec.offered ≡ Some s → to ≡ first_place at (cell params s.parameter) (drop at (column_cells s.column rows))
+pub moved : (spec : Spec) (params : Tuple) (rows : List TableRow) (index : Option SoughtIndex) (x : SoughtIndex) (at to : ℕ)
+    → index ≡ Some x → Leads spec (form_of x.found) → to ≡ first_place at (cell params x.found.parameter) (drop at (column_cells x.found.column rows))
     → Moves spec params rows index at to
-moved spec params rows index s at to e is =
-    let w = skips (is_taken spec params) params rows s at to (taken_needs spec params s e) is in
+moved spec params rows index x at to i leads is =
+    let s : SoughtForm = form_of x.found in
+    let w = skips (is_taken spec params) params rows s at to (λ r h. leads_needs spec params r.cells s leads h) is in
     record {
       past = w.past;
       same = w.same;
-      on = λ lt x s' i e'. let same : s ≡ s' = one s s' (sym e ∙ e') in
-          subst (λ (z : SoughtForm). Follows (cell params z.parameter) (column_cells z.column rows) (to + 1)) same
+      on = λ lt y j. let same : x ≡ y = same_index x y (sym i ∙ j) in
+          subst (λ (z : SoughtIndex). Follows (cell params z.found.parameter) (column_cells z.found.column rows) (to + 1)) same
           (λ k up. let back : k ≡ to = omega arith in
           subst (λ (j : ℕ). (j < length (column_cells s.column rows)) × (equals (cell params s.parameter) (cell (column_cells s.column rows) j) ≡ true)) (sym back)
           ((let l = cells_length s.column rows in omega arith), w.has lt));
     }
-  where
-    one : (a b : SoughtForm) → Some a ≡ Some b → a ≡ b
-    one a b q = cc
 
 -- the row at a place is given, or it is not, or no row is left
 pub given_here : (spec : Spec) (params : Tuple) (rows : List Row) (from at : ℕ) (row : Row) (cells : Tuple) → at < length rows → row ≡ get_or rows at row

@@ -12,7 +12,7 @@ use Rattle.med_value.specs.declared.value.Row.{Row}
 use Rattle.fdw_api.specs.Prelude.{Spec, KeyForm, spec_of, TableRow, GivenRow, given_row, first_of, row_cmp, key_form, Entry, Stored, Known, as_they_come, Nature, BoxTable, Scan, Staging, Ledger, Content, BoxState, row_of, row_of_change_fits}
 use Rattle.med_value.specs.declared.value.ColType.{ColType}
 use Rattle.std.specs.List.{list_all}
-use Rattle.wrapper_parts.specs.declared.index.PlaceIndex.{PlaceIndex}
+use Rattle.wrapper_parts.specs.declared.sought.SoughtIndex.{SoughtIndex}
 use Rattle.wrapper_parts.specs.Scans.{is_taken, rows_taken, rows_at_places as rows_of_places, Serves, Stands}
 use Rattle.list_wrapper.specs.declared.held_tables.Table.{Table}
 use Rattle.list_wrapper.specs.declared.scans.ListScan.{ListScan}
@@ -114,13 +114,13 @@ abbrev pub NextIs : Spec → Tuple → List TableRow → Walk → ℕ → Option
 NextIs spec params rows walk = NextOf spec (rows_ahead spec params rows walk)
 
 -- the index by which a scan goes
-abbrev pub index_of : Walk → Option PlaceIndex
+abbrev pub index_of : Walk → Option SoughtIndex
 index_of InTurn = None
 index_of (Within span) = None
 index_of (ByIndex x) = Some x
 index_of (ByKeys places) = None
 
-abbrev pub index_in : Option Walk → Option PlaceIndex
+abbrev pub index_in : Option Walk → Option SoughtIndex
 index_in None = None
 index_in (Some walk) = index_of walk
 
@@ -130,7 +130,7 @@ newer (Some walk) old = walk
 newer None old = old
 
 -- a scan goes from a place to another: it takes no row between them, and can go on behind the other
-pub record Moves (spec : Spec) (params : Tuple) (rows : List TableRow) (index : Option PlaceIndex) (at to : ℕ) : Type 0 where
+pub record Moves (spec : Spec) (params : Tuple) (rows : List TableRow) (index : Option SoughtIndex) (at to : ℕ) : Type 0 where
   pub past : at ≤ to
   pub same : left_in_turn spec params rows at ≡ left_in_turn spec params rows to
   pub on : to < length rows → Stands spec params rows (to + 1) index

@@ -19,7 +19,7 @@ use fdw_api::wishes::OrderKey;
 use med_value::{NoMemory, Row, Value};
 use std::alloc::Global;
 use std::collections::BTreeMap;
-use wrapper_parts::{PlaceIndex, Sought, sought_in, takes, value_at};
+use wrapper_parts::{PlaceIndex, SoughtIndex, exact_at, first_lead, sought_in, takes, value_at};
 
 /// How a scan goes over the rows of its table.
 #[derive(Drop)]
@@ -29,7 +29,7 @@ pub(crate) enum Walk {
     /// In list order, over these places alone.
     Within(Span),
     /// In list order, from place to place of the value that it looks for.
-    ByIndex(PlaceIndex),
+    ByIndex(SoughtIndex),
     /// From place to place in the order that is promised: those of the rows that it takes.
     ByKeys(Vec<usize>),
 }
@@ -150,17 +150,42 @@ fn index_of_column(alloc: Global, rows: &Rows, column: usize) -> Result<PlaceInd
     Ok(index)
 }
 
+/// An index of the column with most distinct values among those that lead a scan: that of what the scan looks for first, or of an equality
+/// that was answered Exact. None is looked for behind one that leaves two places to a value. It holds two indexes at a time at most.
+fn best_index(alloc: Global, rows: &Rows, spec: &ScanSpec) -> Result<Option<SoughtIndex>, NoMemory>
+    ensures { IfOk result (λ index. Serves (spec_of spec.now) (numbered 0 rows.now.items) index) }
+{
+    let Some(found) = first_lead(spec) else {
+        return Ok(None);
+    };
+    let places = index_of_column(alloc, rows, found.column)?;
+    let mut best = SoughtIndex { found, places };
+    let mut at = 0;
+    while at < spec.offered.len() && !best.places.is_sharp() {
+        if let Some(found) = exact_at(spec, at)
+            && found.column != best.found.column
+        {
+            let places = index_of_column(alloc, rows, found.column)?;
+            if best.places.distinct() < places.distinct() {
+                best = SoughtIndex { found, places };
+            }
+        }
+        at += 1;
+    }
+    Ok(Some(best))
+}
+
 /// The first place from a place on at which there may be a row that a scan takes.
-fn place_from(_rows: &Rows, scan: &ListScan, found: Option<Sought>, at: usize) -> usize
-    requires found { option_map form_of found ≡ sought (map restriction_form scan.now.spec.offered.items) }
+fn place_from(_rows: &Rows, scan: &ListScan, at: usize) -> usize
     requires serves { Serves (spec_is scan.now) (numbered 0 _rows.now.items) (index_of scan.now.walk) }
     requires stands { Stands (spec_is scan.now) (params_of scan.now) (numbered 0 _rows.now.items) at (index_of scan.now.walk) }
     ensures { Moves (spec_is scan.now) (params_of scan.now) (numbered 0 _rows.now.items) (index_of scan.now.walk) at result }
 {
-    match (&scan.walk, found) {
-        (Walk::ByIndex(index), Some(found)) => {
+    match &scan.walk {
+        Walk::ByIndex(index) => {
             let missing = Value::Null;
-            index.next_place(value_at(&scan.params, found.parameter, &missing), at)
+            let value = value_at(&scan.params, index.found.parameter, &missing);
+            index.places.next_place(value, at)
         }
         _ => at,
     }
@@ -174,7 +199,7 @@ fn next_in_turn(alloc: Global, rows: &Rows, scan: &ListScan) -> Result<Option<St
     ensures on { IfOk result (StandsAfter rows.now.items scan.now) }
 {
     let found = sought_in(&scan.spec.offered);
-    let mut at = place_from(rows, scan, found, scan.at);
+    let mut at = place_from(rows, scan, scan.at);
     while at < rows.len() {
         let next = rows.at(at);
         if takes(&scan.spec, found, &scan.params, next) {
@@ -185,7 +210,7 @@ fn next_in_turn(alloc: Global, rows: &Rows, scan: &ListScan) -> Result<Option<St
             };
             return Ok(Some(Step { row, after: at + 1 }));
         }
-        at = place_from(rows, scan, found, at + 1);
+        at = place_from(rows, scan, at + 1);
     }
     Ok(None)
 }
@@ -381,9 +406,8 @@ pub(crate) fn new_walk(
     if matches!(scan.walk, Walk::ByIndex(_)) {
         return Ok(None);
     }
-    let Some(found) = sought_in(&scan.spec.offered) else {
-        return Ok(Some(turn_walk(rows, rises, &scan.spec, params)));
-    };
-    let index = index_of_column(alloc, rows, found.column)?;
-    Ok(Some(Walk::ByIndex(index)))
+    match best_index(alloc, rows, &scan.spec)? {
+        Some(index) => Ok(Some(Walk::ByIndex(index))),
+        None => Ok(Some(turn_walk(rows, rises, &scan.spec, params))),
+    }
 }

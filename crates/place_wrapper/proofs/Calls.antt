@@ -22,7 +22,7 @@ use Rattle.blob_store.specs.Shelves.{Shelf}
 use Rattle.wrapper_parts.specs.declared.changes.StagedWrite.{StagedWrite}
 use Rattle.place_wrapper.specs.Mapped.{mapped, live_at, Updates}
 use Rattle.place_wrapper.proofs.Maps.{mapped_get, mapped_insert, mapped_put_back, mapped_remove, apart}
-use Rattle.wrapper_parts.specs.declared.index.PlaceIndex.{PlaceIndex}
+use Rattle.wrapper_parts.specs.declared.sought.SoughtIndex.{SoughtIndex}
 use Rattle.wrapper_parts.specs.Scans.{Serves}
 use Rattle.place_wrapper.specs.declared.scans.LiveScan.{LiveScan}
 use Rattle.place_wrapper.specs.Forms.{Form}
@@ -123,7 +123,7 @@ module _ {T : Type 0} (F : Form T) where
   starts_fitting tables s t params old r =
       subst (λ (z : LiveScan). ScanFits F (table_at tables z.table) z) (sym r.is) (old.0, serves r.index r.serves, r.stands, r.spans.ends)
     where
-      serves : (i : Option PlaceIndex) → Serves (spec_of s.spec) (rows_held F (table_at tables s.table)) i → Serves (spec_of s.spec) (rows_held F (table_at tables s.table)) (newer i s.index)
+      serves : (i : Option SoughtIndex) → Serves (spec_of s.spec) (rows_held F (table_at tables s.table)) i → Serves (spec_of s.spec) (rows_held F (table_at tables s.table)) (newer i s.index)
       serves None new = old.1
       serves (Some x) new = new
 

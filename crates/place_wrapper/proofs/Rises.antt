@@ -5,7 +5,7 @@ use Rattle.std.proofs.lemmas.Option.{slice_get_within}
 use Rattle.med_value.specs.Datum.{Datum, Whole, Tuple, cell, datum}
 use Rattle.med_value.specs.declared.value.Value.{Value}
 use Rattle.fdw_api.specs.Scan.{Spec, spec_of, TableRow, GivenRow, given_row, meets_exact}
-use Rattle.wrapper_parts.specs.declared.index.PlaceIndex.{PlaceIndex}
+use Rattle.wrapper_parts.specs.declared.sought.SoughtIndex.{SoughtIndex}
 use Rattle.wrapper_parts.specs.declared.ranges.KeyRange.{KeyRange}
 use Rattle.wrapper_parts.specs.Ranges.{has_key}
 use Rattle.wrapper_parts.specs.Rising.{AreRising}
@@ -119,7 +119,7 @@ module _ {T : Type 0} (F : Form T) where
       ∙ none_later (F.takes t spec params) (drop end (F.rows t)) (at - end) (none_given (given_row spec) (filter (F.takes t spec params) (drop end (F.rows t))) e))
 
   -- a scan that has an index, if it needs one, is begun again at the first of its places
-  pub restarted : (tables : List (Option T)) (params : Vec Value Global) (s m : LiveScan) (first end : ℕ) (index : Option PlaceIndex)
+  pub restarted : (tables : List (Option T)) (params : Vec Value Global) (s m : LiveScan) (first end : ℕ) (index : Option SoughtIndex)
       → Serves (spec_of s.spec) (rows_held F (table_at tables s.table)) index → m ≡ record s { index = newer index s.index }
       → Spans F (table_at tables m.table) (spec_of m.spec) (map datum params.items) first end → (is_some m.index ≡ true → first ≡ 0)
       → Restarted F (table_at tables s.table) params s (record m { params = params; at = first; end = end })

@@ -8,7 +8,7 @@ use Rattle.med_value.specs.declared.value.ColType.{ColType}
 use Rattle.med_value.specs.declared.value.Value.{Value}
 use Rattle.fdw_api.specs.Prelude.{Spec, spec_of, TableRow, GivenRow, given_row, Scan, Staging, row_of, bumped, row_of_change_fits}
 use Rattle.fdw_api.specs.declared.interface.SourceRow.{SourceRow}
-use Rattle.wrapper_parts.specs.declared.index.PlaceIndex.{PlaceIndex}
+use Rattle.wrapper_parts.specs.declared.sought.SoughtIndex.{SoughtIndex}
 use Rattle.wrapper_parts.specs.Scans.{Serves, Stands}
 use Rattle.place_wrapper.specs.declared.scans.LiveScan.{LiveScan}
 use Rattle.place_wrapper.specs.Forms.{Form}
@@ -41,13 +41,13 @@ NextIs F o spec params at (Some row) =
     × (rows_to_come F o spec params at ≡ row_of row ∷ rows_to_come F o spec params (row.id.number + 1))
 
 -- a scan goes from a place to another: it takes no row between them, and can go on behind the other
-pub record Moves {T : Type 0} (F : Form T) (t : T) (spec : Spec) (params : Tuple) (index : Option PlaceIndex) (at to : ℕ) : Type 0 where
+pub record Moves {T : Type 0} (F : Form T) (t : T) (spec : Spec) (params : Tuple) (index : Option SoughtIndex) (at to : ℕ) : Type 0 where
   pub past : at ≤ to
   pub same : filter (F.takes t spec params) (drop at (F.rows t)) ≡ filter (F.takes t spec params) (drop to (F.rows t))
   pub on : to < length (F.rows t) → Stands spec params (F.rows t) (to + 1) index
 
 -- the index of a scan that is begun again
-abbrev pub newer : Option PlaceIndex → Option PlaceIndex → Option PlaceIndex
+abbrev pub newer : Option SoughtIndex → Option SoughtIndex → Option SoughtIndex
 newer (Some x) old = Some x
 newer None old = old
 
@@ -78,7 +78,7 @@ pulled_after (Err e) pulled = pulled
 -- a scan is begun again by these parameters: with an index of its own table, if one is made, and at the first of the places over which it
 -- has to go, from which its index goes on
 pub record Restarted {T : Type 0} (F : Form T) (o : Option T) (params : Vec Value Global) (s t : LiveScan) : Type 0 where
-  pub index : Option PlaceIndex
+  pub index : Option SoughtIndex
   pub serves : Serves (spec_of s.spec) (rows_held F o) index
   pub first : ℕ
   pub end : ℕ

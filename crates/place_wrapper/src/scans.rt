@@ -7,7 +7,7 @@ ghost use Rattle.fdw_api.specs.declared.interface.Fault.TheVariants.{NoMemory as
 ghost use Rattle.wrapper_parts.specs.Scans.{Serves, Stands, sought, form_of, column_cells};
 ghost use Rattle.wrapper_parts.specs.Indexes.{IsIndexFrom};
 ghost use Rattle.place_wrapper.specs.Forms.{GivesAt};
-ghost use Rattle.wrapper_parts.specs.declared.index.PlaceIndex.{PlaceIndex};
+ghost use Rattle.wrapper_parts.specs.declared.sought.SoughtIndex.{SoughtIndex};
 ghost use Rattle.place_wrapper.specs.declared.scans.LiveScan.{LiveScan};
 ghost use Rattle.place_wrapper.specs.Mapped.{live_at, Updates, numbers, Rise};
 ghost use Rattle.place_wrapper.specs.Boxes.{NextIs, Moves, ScanFits, Pulls, Restarts, table_at, rows_held, newer};
@@ -19,9 +19,9 @@ use fdw_api::interface::{Fault, RowId, SourceRow};
 use fdw_api::scan::ScanSpec;
 use med_value::{NoMemory, Row, Value};
 use std::alloc::Global;
-use wrapper_parts::{PlaceIndex, Sought, sought_in, value_at};
+use wrapper_parts::{PlaceIndex, Sought, SoughtIndex, exact_at, first_lead, sought_in, value_at};
 
-/// A live scan: what it was asked for, and the place from which it goes on to its end. Once it is begun again it has an index of the column
+/// A live scan: what it was asked for, and the place from which it goes on to its end. Once it is begun again it has an index of a column
 /// in which it looks for a parameter, if there is one. A broken one is good for `end` alone.
 #[derive(Drop)]
 pub struct LiveScan {
@@ -30,7 +30,7 @@ pub struct LiveScan {
     pub params: Vec<Value>,
     pub at: usize,
     pub end: usize,
-    pub index: Option<PlaceIndex>,
+    pub index: Option<SoughtIndex>,
     pub broken: bool,
 }
 
@@ -88,24 +88,48 @@ fn index_of_column<T: PlacedTable>(
     Ok(index)
 }
 
+/// An index of the column with most distinct values among those that lead a scan: that of what the scan looks for first, or of an equality
+/// that was answered Exact. None is looked for behind one that leaves two places to a value. It holds two indexes at a time at most.
+fn best_index<T: PlacedTable>(
+    alloc: Global,
+    table: &T,
+    spec: &ScanSpec,
+) -> Result<Option<SoughtIndex>, NoMemory>
+    ensures { IfOk result (λ index. Serves (spec_of spec.now) (T.form.rows table.now) index) }
+{
+    let Some(found) = first_lead(spec) else {
+        return Ok(None);
+    };
+    let places = index_of_column(alloc, table, found.column)?;
+    let mut best = SoughtIndex { found, places };
+    let mut at = 0;
+    while at < spec.offered.len() && !best.places.is_sharp() {
+        if let Some(found) = exact_at(spec, at)
+            && found.column != best.found.column
+        {
+            let places = index_of_column(alloc, table, found.column)?;
+            if best.places.distinct() < places.distinct() {
+                best = SoughtIndex { found, places };
+            }
+        }
+        at += 1;
+    }
+    Ok(Some(best))
+}
+
 /// The first place from a place on at which there may be a row that a scan takes.
-fn place_from<T: PlacedTable>(
-    _table: &T,
-    scan: &LiveScan,
-    found: Option<Sought>,
-    at: usize,
-) -> usize
-    requires found { option_map form_of found ≡ sought (map restriction_form scan.now.spec.offered.items) }
+fn place_from<T: PlacedTable>(_table: &T, scan: &LiveScan, at: usize) -> usize
     requires serves { Serves (spec_of scan.now.spec) (T.form.rows _table.now) scan.now.index }
     requires stands { Stands (spec_of scan.now.spec) (map datum scan.now.params.items) (T.form.rows _table.now) at scan.now.index }
     ensures { Moves T.form _table.now (spec_of scan.now.spec) (map datum scan.now.params.items) scan.now.index at result }
 {
-    match (&scan.index, found) {
-        (Some(index), Some(found)) => {
+    match &scan.index {
+        Some(index) => {
             let missing = Value::Null;
-            index.next_place(value_at(&scan.params, found.parameter, &missing), at)
+            let value = value_at(&scan.params, index.found.parameter, &missing);
+            index.places.next_place(value, at)
         }
-        _ => at,
+        None => at,
     }
 }
 
@@ -123,7 +147,9 @@ fn row_at<T: PlacedTable>(
     ensures { IfOk result (λ given. GivesAt T.form table.now (spec_of scan.now.spec) (map datum scan.now.params.items) at given) }
 {
     match (&scan.index, found) {
-        (Some(_index), Some(found)) => table.give_found(alloc, at, &scan.spec, found, &scan.params),
+        (Some(index), Some(found)) if index.found.is_of(found) => {
+            table.give_found(alloc, at, &scan.spec, found, &scan.params)
+        }
         _ => table.give(alloc, at, &scan.spec, found, &scan.params),
     }
 }
@@ -150,7 +176,7 @@ fn next_row<T: PlacedTable>(
 {
     let found = sought_in(&scan.spec.offered);
     let end = end_of(scan);
-    let mut at = place_from(table, scan, found, scan.at);
+    let mut at = place_from(table, scan, scan.at);
     while at < end {
         if let Some(cells) = row_at(alloc, table, scan, found, at)? {
             return Ok(Some(SourceRow {
@@ -158,7 +184,7 @@ fn next_row<T: PlacedTable>(
                 cells,
             }));
         }
-        at = place_from(table, scan, found, at + 1);
+        at = place_from(table, scan, at + 1);
     }
     Ok(None)
 }
@@ -169,7 +195,8 @@ fn plain_row<T: PlacedTable>(
     table: &T,
     scan: &LiveScan,
 ) -> Result<Option<SourceRow>, Fault>
-    requires { scan.now.spec.offered.items ≡ [] }
+    requires plain { scan.now.spec.offered.items ≡ [] }
+    requires serves { Serves (spec_of scan.now.spec) (T.form.rows table.now) scan.now.index }
     ensures next { IfOk result (λ next. NextIs T.form (Some table.now) (spec_of scan.now.spec) (map datum scan.now.params.items)
         scan.now.at next) }
     ensures on { IfOk result (λ next. IfSome next (λ row. Stands (spec_of scan.now.spec) (map datum scan.now.params.items)
@@ -255,7 +282,7 @@ fn add_index<T: PlacedTable>(
     tables: &Vec<Option<T>>,
     scan: &mut LiveScan,
 ) -> Result<(), NoMemory>
-    ensures ok { IfOk result (λ _. (index : Option PlaceIndex) × Serves (spec_of scan.old.spec)
+    ensures ok { IfOk result (λ _. (index : Option SoughtIndex) × Serves (spec_of scan.old.spec)
         (rows_held T.form (table_at tables.now.items scan.old.table)) index
         × (scan.new ≡ record scan.old { index = newer index scan.old.index })) }
     ensures err { IfErr result (λ _. scan.new ≡ scan.old) }
@@ -263,11 +290,8 @@ fn add_index<T: PlacedTable>(
     if scan.index.is_some() {
         return Ok(());
     }
-    let Some(found) = sought_in(&scan.spec.offered) else {
-        return Ok(());
-    };
     if let Some(table) = table_at(tables, scan.table) {
-        scan.index = Some(index_of_column(alloc, table, found.column)?);
+        scan.index = best_index(alloc, table, &scan.spec)?;
     }
     Ok(())
 }

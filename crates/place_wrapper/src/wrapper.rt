@@ -25,7 +25,7 @@ use wrapper_parts::{RowChange, StagedWrite, add_change};
 /// Blobs that are read as tables of a format, as a source of foreign tables.
 ///
 /// A remote name is the name of a blob. A blob is read when it is bound, and the id of a row is its place. A scan takes what its format
-/// takes; one that looks for a parameter builds an index of that column when it is begun again, and goes from place to place by it until it
+/// takes; one that looks for a parameter builds an index of such a column when it is begun again, and goes from place to place by it until it
 /// ends. Where the first column rises, a scan goes only over the places of the keys that its restrictions ask for. A write goes into a draft
 /// of its table and then, as the image of that draft, into the blob; refused, the table is as it was. A refused call uses no ticket number
 /// up. It answers `Fault::Source` where the blobs failed by their device or are worn out, and `faults` are the blobs' `failures`.

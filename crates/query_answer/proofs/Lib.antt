@@ -20,4 +20,8 @@ pub mod Runnings
 pub mod Gathered
 pub mod Unions
 pub mod Alone
+pub mod PrefixOrder
+pub mod RankOrder
+pub mod SortedFront
+pub mod CommonStart
 pub mod Counting

@@ -10,4 +10,6 @@ pub mod Running
 pub mod Classes
 pub mod Counting
 pub mod Folding
+pub mod Prefixes
+pub mod Ranks
 pub mod Gathering

@@ -12,6 +12,8 @@ mod leaves;
 mod new_folds;
 mod ordering;
 pub mod outputs;
+mod prefixes;
+mod ranking;
 mod row_counts;
 mod row_keys;
 mod running;

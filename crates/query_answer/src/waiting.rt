@@ -7,7 +7,7 @@ ghost use Rattle.query_answer.specs.Ordering.{BeginsInOrder, HaveSamePage, Stand
 ghost use Rattle.query_answer.specs.Staging.{HasNoFault, faults_by, output_of, outputs_by};
 
 use crate::behind::{is_behind, is_safe};
-use crate::ordering::{FEW, first_in_order, rows_wanted};
+use crate::ordering::{MANY, front_in_order, rows_wanted};
 use crate::staging::{Staged, push_staged, staged_row};
 use med_query::{Select, SelectCore};
 use med_value::law::key_order_is_total;
@@ -33,7 +33,7 @@ pub(crate) struct Waiting<'a> {
 // How many outputs are held before the first are let go: some more than OFFSET and LIMIT can leave.
 fn room(select: &Select) -> usize {
     match rows_wanted(select.offset, select.limit) {
-        Some(wanted) if wanted <= FEW => 2 * wanted + 32,
+        Some(wanted) if wanted <= MANY => 2 * wanted + 32,
         _ => usize::MAX,
     }
 }
@@ -50,7 +50,7 @@ fn trimmed(
     ensures sorted { IfOk result (λ out. IsSortedBy (comes_before select.now) (map output_of out.items)) }
 {
     key_order_is_total();
-    first_in_order(alloc, select.directions.as_slice(), held, wanted)
+    front_in_order(alloc, select.directions.as_slice(), held, wanted)
 }
 
 // Whether two queries have the same ORDER BY, OFFSET and LIMIT.
@@ -129,7 +129,7 @@ impl<'a> Waiting<'a> {
             (map output_of self.new.held.items)) }
     {
         match rows_wanted(self.select.offset, self.select.limit) {
-            Some(wanted) if wanted <= FEW => {
+            Some(wanted) if wanted <= MANY => {
                 self.front = 0;
                 let held = mem::replace(&mut self.held, Vec::new(alloc));
                 self.held = trimmed(alloc, self.select, wanted, held)?;

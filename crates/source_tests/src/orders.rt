@@ -13,7 +13,7 @@ use fdw_api::interface::{Fault, Wrapper};
 use med_value::{ColType, ColumnDef, NoMemory, Row, TableNo, Value};
 use sqlite::{Connection, Error, MemStore};
 use sqlite_wrapper::SqliteWrapper;
-use sqlite_writes::memory_database;
+use sqlite_writes::{Watch, memory_database};
 use std::alloc::Global;
 use std::test::Fail;
 
@@ -113,6 +113,6 @@ pub fn new_source(alloc: Global, limit: Option<u64>) -> Result<SqliteWrapper<Mem
         (sqlite_state true (state over_memory w.conn).now w.bound.items w.scans w.staged w.next w.pulled w.faults)) }
 {
     let conn = limited_database(alloc, limit)?;
-    let source = SqliteWrapper::new(alloc, conn)?;
+    let source = SqliteWrapper::new(alloc, conn, Watch::of_memory())?;
     Ok(source)
 }

@@ -1,5 +1,5 @@
 -- Which page a scan asks for, and how it stands behind a row.
-use Rattle.std.specs.Prelude.{◌≡◌, ◌⊎◌, ◌-◌, ◌<◌, ◌≤ℤ◌, ℕ, List, [], ◌∷◌, drop, ℤ, pos, ◌+ℤ◌, ◌+◌, Bool, true, false, not, ◌||◌, length, Option, Some, None, option_map, nat_eq, if◌then◌else◌, nat_lt, int_lt, int_le, ◌&&◌}
+use Rattle.std.specs.Prelude.{◌≡◌, ◌⊎◌, ◌-◌, ◌<◌, ◌≤ℤ◌, ℕ, List, [], ◌∷◌, drop, ℤ, pos, ◌+ℤ◌, ◌+◌, Bool, true, false, not, ◌||◌, length, Option, Some, None, option_map, nat_eq, if◌then◌else◌, nat_lt, int_lt, int_le, ◌&&◌, slice_get}
 use Rattle.sqlite.specs.Order.{Row as SqlRow}
 use Rattle.med_value.specs.Datum.{tuple}
 use Rattle.fdw_api.specs.Prelude.{spec_of, shown_fits, row_fits, row_of}
@@ -40,6 +40,10 @@ abbrev pub may_be_next : KeyScan → SqlRow → Bool
 may_be_next s r =
     is_row r && row_fits (kinds_in (layout_at s.table)) (page_cells (layout_at s.table) r)
     && s.«open» && int_le s.low (key_in r) && int_le (key_in r) s.high
+
+-- the next row of the page, where it has one, may not come
+abbrev pub IsStuck : KeyScan → Type 0
+IsStuck s = (r : SqlRow) → slice_get s.page.items s.at ≡ Some r → may_be_next s r ≡ false
 
 -- the next row of the page, of a key that may come, as the scan gives it; none where no row may come any more, or the page has none
 abbrev pub IsNext : KeyScan → Option GivenNext → Type 0

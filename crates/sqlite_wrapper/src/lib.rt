@@ -6,6 +6,7 @@ mod lookups;
 mod promises;
 mod rows;
 mod scans;
+mod watched;
 pub mod wrapper;
 mod writing;
 

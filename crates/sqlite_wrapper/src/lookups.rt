@@ -1,5 +1,5 @@
 //! Scans that are begun again and look for a parameter: the rows that have its value are found, and no page is turned.
-ghost use Rattle.std.specs.Prelude.{◌≡◌, true, false, Some, None, IfOk, IfErr, IfSome, IfNone, IsSome};
+ghost use Rattle.std.specs.Prelude.{◌≡◌, ◌⊎◌, true, false, Some, None, IfOk, IfErr, IfSome, IfNone, IsSome};
 ghost use Rattle.std.specs.Ordering.{nat_cmp};
 ghost use Rattle.std.specs.BTreeMap as tree;
 ghost use Rattle.sqlite.specs.Held.{state};
@@ -8,6 +8,7 @@ ghost use Rattle.sqlite_trees.specs.declared.store.Shape.TheVariants as shape;
 ghost use Rattle.fdw_api.specs.Calls.{not_refused};
 ghost use Rattle.wrapper_parts.specs.Scans.{form_of};
 ghost use Rattle.sqlite_tables.specs.Prelude.{layout_at, IsKnown, IsSure, ReadsOnly, entries_in, IsLookup};
+ghost use Rattle.sqlite_writes.specs.Watched.{Looks};
 ghost use Rattle.sqlite_wrapper.specs.Boxes.{scan_is};
 ghost use Rattle.sqlite_wrapper.specs.Looks.{IsFree, LooksFor, IsAnswered};
 
@@ -16,6 +17,7 @@ use fdw_api::interface::Fault;
 use med_value::Value;
 use sqlite::{Connection, Row};
 use sqlite_tables::{Lookup, SourceStore, read_lookup, rows_with};
+use sqlite_writes::Watch;
 use std::alloc::Global;
 use std::collections::BTreeMap;
 use wrapper_parts::{Sought, sought_in, value_at};
@@ -103,10 +105,11 @@ fn with_rows(scan: KeyScan, lookup: Lookup, found: Option<Vec<Row>>) -> KeyScan
 
 /// A scan that has just begun, where it looks for a parameter: with the rows that have its value as its only page, if they are at most 64.
 /// Where they are more, or it looks for none, its pages are turned as ever. The lookup is the one that the scan had before it was begun
-/// again.
+/// again. It fails, and does not use the connection, where the files of the database are not those that were opened.
 pub(crate) fn look_up<S: SourceStore>(
     alloc: Global,
     conn: &mut Connection<S>,
+    watch: &mut Watch,
     scan: KeyScan,
     had: Option<Lookup>,
 ) -> Result<KeyScan, Fault>
@@ -123,12 +126,14 @@ pub(crate) fn look_up<S: SourceStore>(
         → IfOk result (IsAnswered true (entries_in (state S.Store conn.old).now scan.table) scan) }
     ensures reads { ReadsOnly (state S.Store conn.old) (state S.Store conn.new) (layout_at scan.table) }
     ensures idle { conn.new.in_transaction ≡ false }
+    ensures looked { (conn.new ≡ conn.old) ⊎ Looks watch.old watch.new true }
 {
     let Some(found) = looks_for(&scan) else {
         let mut scan = scan;
         scan.lookup = had;
         return Ok(scan);
     };
+    watch.look()?;
     let lookup = match lookup_of(alloc, conn, scan.table, found.column, had) {
         Err(fault) => return Err(fault),
         Ok(lookup) => lookup,

@@ -1,19 +1,21 @@
 //! The rows of live scans: pages are read, and rows given.
-ghost use Rattle.std.specs.Prelude.{◌≡◌, true, false, Some, slice_get, IfOk, IfErr, IfSome, IsSome, OnOk, OnErr};
+ghost use Rattle.std.specs.Prelude.{◌≡◌, ◌⊎◌, true, false, Some, slice_get, IfOk, IfErr, IfSome, IsSome, OnOk, OnErr};
 ghost use Rattle.std.specs.Ordering.{nat_cmp};
 ghost use Rattle.std.specs.BTreeMap as tree;
 ghost use Rattle.fdw_api.specs.Calls.{faults_after, not_refused};
 ghost use Rattle.sqlite.specs.Held.{state};
 ghost use Rattle.sqlite_wrapper.specs.declared.scans.KeyScan.{KeyScan};
 ghost use Rattle.sqlite_tables.specs.Prelude.{layout_at, IsKnown, IsSure, ReadsOnly, entries_of};
+ghost use Rattle.sqlite_writes.specs.Watched.{Looks};
 ghost use Rattle.sqlite_wrapper.specs.Boxes.{Sets};
-ghost use Rattle.sqlite_wrapper.specs.Pages.{IsNext, Turns, may_be_next};
+ghost use Rattle.sqlite_wrapper.specs.Pages.{IsNext, IsStuck, Turns};
 
 use crate::scans::{KeyScan, is_spent, page_wanted, turn_page};
 use fdw_api::interface::{Fault, RowId, SourceRow};
 use fdw_api::law::rows_are_typed;
 use sqlite::Connection;
 use sqlite_tables::{Keyed, Misread, SourceStore, key_and_cells, page_between};
+use sqlite_writes::Watch;
 use std::alloc::Global;
 use std::collections::BTreeMap;
 
@@ -48,8 +50,7 @@ fn fault_of_misread(misread: Misread) -> Fault
 fn given_next(alloc: Global, scan: &KeyScan) -> Result<Option<GivenNext>, Fault>
     ensures ok { IfOk result (IsNext scan.now) }
     ensures err { IfErr result not_refused }
-    ensures source { IfErr result (λ f. f ≡ Fault.Source → (r : _) → slice_get scan.now.page.items scan.now.at ≡ Some r
-        → may_be_next scan.now r ≡ false) }
+    ensures source { IfErr result (λ f. f ≡ Fault.Source → IsStuck scan.now) }
 {
     if is_spent(scan.room) {
         return Ok(None);
@@ -88,6 +89,7 @@ pub(crate) fn next_of(
     requires { IsSome (tree.get nat_cmp scans.now number) }
     ensures ok { IfOk result (λ next. IfSome (tree.get nat_cmp scans.now number) (λ s. IsNext s next)) }
     ensures err { IfErr result not_refused }
+    ensures source { IfErr result (λ f. f ≡ Fault.Source → IfSome (tree.get nat_cmp scans.now number) IsStuck) }
 {
     match scans.get(&number) {
         None => unreachable!(),
@@ -96,9 +98,10 @@ pub(crate) fn next_of(
 }
 
 /// Reads the next page of a live scan, where it has given all rows of its last one and one may follow. The rows that it has still to give
-/// stay the same.
+/// stay the same. It fails, and does not use the connection, where the files of the database are not those that were opened.
 pub(crate) fn read_page<S: SourceStore>(
     conn: &mut Connection<S>,
+    watch: &mut Watch,
     scans: &mut BTreeMap<u64, KeyScan>,
     number: u64,
 ) -> Result<(), Fault>
@@ -116,10 +119,12 @@ pub(crate) fn read_page<S: SourceStore>(
     ensures reads { IfSome (tree.get nat_cmp scans.old number)
         (λ s. ReadsOnly (state S.Store conn.old) (state S.Store conn.new) (layout_at s.table)) }
     ensures idle { conn.new.in_transaction ≡ false }
+    ensures looked { (conn.new ≡ conn.old) ⊎ Looks watch.old watch.new true }
 {
     let Some(wanted) = page_wanted(scans, number) else {
         return Ok(());
     };
+    watch.look()?;
     match page_between(conn, wanted.table, wanted.low, wanted.high) {
         Err(fault) => Err(fault),
         Ok(page) => {

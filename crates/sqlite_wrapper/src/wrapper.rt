@@ -1,5 +1,5 @@
 //! A SQLite database as a source of foreign tables.
-ghost use Rattle.std.specs.Prelude.{◌≡◌, ◌≤◌, ◌&&◌, ℕ, true, false, length, map, None, Some, IsTrue, IsSome, IfOk, IfErr, is_some, option_map};
+ghost use Rattle.std.specs.Prelude.{◌≡◌, ◌≤◌, ◌&&◌, ◌⊎◌, OnOk, ℕ, true, false, length, map, None, Some, IsTrue, IsSome, IfOk, IfErr, is_some, option_map};
 ghost use Rattle.std.specs.Ordering.{nat_cmp};
 ghost use Rattle.std.specs.BTreeMap as tree;
 ghost use Rattle.sqlite.specs.Held.{state};
@@ -11,6 +11,7 @@ ghost use Rattle.sqlite_tables.specs.Layouts.{kinds_in, layout_at, layout_count}
 ghost use Rattle.wrapper_parts.specs.Staged.{write_is};
 ghost use Rattle.sqlite_wrapper.specs.Changes.{NamesOnce, named_is_prop, names_rows, write_fits};
 ghost use Rattle.sqlite_writes.specs.Writable.{AreApart, IsWritable};
+ghost use Rattle.sqlite_writes.specs.Watched.{Looks};
 ghost use Rattle.sqlite_wrapper.specs.Counts.{AreCounts, AreFew};
 ghost use Rattle.sqlite_wrapper.specs.Looks.{AllLook};
 ghost use Rattle.sqlite_wrapper.specs.Boxes.{allows, is_allowed, is_by_key, promised, scan_is, sqlite_state};
@@ -20,15 +21,16 @@ use crate::lookups::{look_up, take_lookup};
 use crate::promises::{all_exact, is_by_key, promised_limit, promised_order};
 use crate::rows::{GivenNext, faults_after, next_of, read_page};
 use crate::scans::{KeyScan, begun_again, new_scan, pass_row, put_scan, spoil};
+use crate::watched::open_table;
 use crate::writing::write_rows;
 use fdw_api::interface::{Counts, Fault, RowId, SourceRow, TableOption, Ticket, Wrapper};
 use fdw_api::scan::{Agreement, Restriction, ScanSpec, copy_values};
 use fdw_api::wishes::{Agreement2, OrderKey, ScanSpec2, Wish, Wrapper2};
 use med_value::{Cause, ColumnDef, NoMemory, Row, TableNo, Value};
 use sqlite::Connection;
-use sqlite_tables::{SourceStore, layout_count, open_table, place_of};
-use sqlite_writes::entries_rise;
+use sqlite_tables::{SourceStore, layout_count, place_of};
 use sqlite_writes::law::first_changes_name_once;
+use sqlite_writes::{Watch, entries_rise};
 use std::alloc::Global;
 use std::collections::BTreeMap;
 use wrapper_parts::{RowChange, StagedWrite, add_change, answers_for};
@@ -44,6 +46,8 @@ use wrapper_parts::{RowChange, StagedWrite, add_change, answers_for};
 #[derive(Drop)]
 pub struct SqliteWrapper<S: SourceStore + Drop> {
     conn: Connection<S>,
+    /// What looks whether the files of the database are still those that were opened.
+    watch: Watch,
     bound: Vec<bool>,
     /// The number of rows of each table, where it is known.
     row_counts: Vec<Option<usize>>,
@@ -74,14 +78,17 @@ impl<S: SourceStore + Drop> SqliteWrapper<S> {
 
     /// A source of this database, on which nothing is bound yet. It is as honest as its store.
     ///
+    /// The watch is the one that came with the connection, or that of a database in memory.
+    ///
     /// It asks that the connection is in no transaction, and of an honest store that each layout's three texts either are not understood
     /// under its schema or are for one table, of no two layouts the same. It is refused for want of memory alone, and drops the connection
     /// then.
-    pub fn new(alloc: Global, conn: Connection<S>) -> Result<Self, NoMemory>
+    pub fn new(alloc: Global, conn: Connection<S>, watch: Watch) -> Result<Self, NoMemory>
         requires idle { conn.in_transaction ≡ false }
         requires writable { (table : ℕ) → S.honest ≡ true → ∥ IsWritable conn.schema table ∥₁ }
         requires apart { S.honest ≡ true → AreApart conn.schema }
         ensures conn { IfOk result (λ w. w.conn ≡ conn) }
+        ensures watch { IfOk result (λ w. w.watch ≡ watch) }
         ensures new { IfOk result (λ w. IsNewSqlite S.honest (state S.Store conn).now
             (sqlite_state S.honest (state S.Store w.conn).now w.bound.items w.scans w.staged w.next w.pulled w.faults)) }
     {
@@ -89,6 +96,7 @@ impl<S: SourceStore + Drop> SqliteWrapper<S> {
         let row_counts = vec![in alloc; None; layout_count() as usize]?;
         Ok(SqliteWrapper {
             conn,
+            watch,
             bound,
             row_counts,
             scans: BTreeMap::new(alloc),
@@ -189,12 +197,14 @@ impl<S: SourceStore + Drop> Wrapper for SqliteWrapper<S> {
             remote.now (map column_of columns.now) (map option_form _options.now) fault
             (sqlite_state true (state S.Store self.new.conn).now
             self.new.bound.items self.new.scans self.new.staged self.new.next self.new.pulled self.new.faults)) }
+        ensures looked { (self.new.conn ≡ self.old.conn) ⊎ Looks self.old.watch self.new.watch true }
+        ensures seen { OnOk result (Looks self.old.watch self.new.watch true) }
     {
         let Some(number) = place_of(remote) else {
             return Err(Fault::Refused(Cause::TableNotFound));
         };
         let _schema = self.conn.schema();
-        let count = match open_table(&mut self.conn, number, columns) {
+        let count = match open_table(&mut self.conn, &mut self.watch, number, columns) {
             Ok(count) => count,
             Err(fault) => {
                 self.faults = faults_after(self.faults, fault);
@@ -294,10 +304,11 @@ impl<S: SourceStore + Drop> Wrapper for SqliteWrapper<S> {
             self.old.bound.items self.old.scans self.old.staged self.old.next self.old.pulled self.old.faults) ticket.now.number fault
             (sqlite_state true (state S.Store self.new.conn).now
             self.new.bound.items self.new.scans self.new.staged self.new.next self.new.pulled self.new.faults)) }
+        ensures looked { (self.new.conn ≡ self.old.conn) ⊎ Looks self.old.watch self.new.watch true }
     {
         let number = ticket.number;
         let _schema = self.conn.schema();
-        if let Err(fault) = read_page(&mut self.conn, &mut self.scans, number) {
+        if let Err(fault) = read_page(&mut self.conn, &mut self.watch, &mut self.scans, number) {
             spoil(&mut self.scans, number);
             self.faults = faults_after(self.faults, fault);
             return Err(fault);
@@ -346,6 +357,7 @@ impl<S: SourceStore + Drop> Wrapper for SqliteWrapper<S> {
             self.old.bound.items self.old.scans self.old.staged self.old.next self.old.pulled self.old.faults) ticket.now.number fault
             (sqlite_state true (state S.Store self.new.conn).now
             self.new.bound.items self.new.scans self.new.staged self.new.next self.new.pulled self.new.faults)) }
+        ensures looked { (self.new.conn ≡ self.old.conn) ⊎ Looks self.old.watch self.new.watch true }
     {
         let _schema = self.conn.schema();
         match begun_again(alloc, &self.scans, ticket.number, params) {
@@ -356,7 +368,7 @@ impl<S: SourceStore + Drop> Wrapper for SqliteWrapper<S> {
             Ok(scan) => {
                 entries_rise(&self.conn, scan.table);
                 let had = take_lookup(&mut self.scans, ticket.number);
-                match look_up(alloc, &mut self.conn, scan, had) {
+                match look_up(alloc, &mut self.conn, &mut self.watch, scan, had) {
                     Err(fault) => {
                         spoil(&mut self.scans, ticket.number);
                         self.faults = faults_after(self.faults, fault);
@@ -427,6 +439,8 @@ impl<S: SourceStore + Drop> Wrapper for SqliteWrapper<S> {
             self.old.bound.items self.old.scans self.old.staged self.old.next self.old.pulled self.old.faults) keep fault
             (sqlite_state true (state S.Store self.new.conn).now
             self.new.bound.items self.new.scans self.new.staged self.new.next self.new.pulled self.new.faults)) }
+        ensures looked { (self.new.conn ≡ self.old.conn) ⊎ Looks self.old.watch self.new.watch true }
+        ensures seen { keep ≡ true → OnOk result (Looks self.old.watch self.new.watch true) }
     {
         let Some(write) = self.staged.take() else {
             unreachable!()
@@ -437,7 +451,14 @@ impl<S: SourceStore + Drop> Wrapper for SqliteWrapper<S> {
         let table = write.table;
         let _schema = self.conn.schema();
         let held = count_of(&self.row_counts, table);
-        match write_rows(alloc, &mut self.conn, table, held, write.changes) {
+        match write_rows(
+            alloc,
+            &mut self.conn,
+            &mut self.watch,
+            table,
+            held,
+            write.changes,
+        ) {
             Ok(count) => {
                 put_count(&mut self.row_counts, table, Some(count));
                 Ok(())

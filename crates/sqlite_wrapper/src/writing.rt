@@ -1,11 +1,12 @@
 //! Writes to the tables of a database, whole or not at all.
-ghost use Rattle.std.specs.Prelude.{◌≡◌, ◌≢◌, ◌≤◌, true, false, None, map, length, IfOk, IfErr, IfSome, OnOk, OnErr, Contains};
+ghost use Rattle.std.specs.Prelude.{◌≡◌, ◌≢◌, ◌≤◌, ◌⊎◌, true, false, None, map, length, IfOk, IfErr, IfSome, OnOk, OnErr, Contains};
 ghost use Rattle.std.specs.List.{list_all};
 ghost use Rattle.sqlite.specs.Held.{state};
 ghost use Rattle.med_value.specs.Prelude.{phase_of, row_limit};
 ghost use Rattle.fdw_api.specs.Prelude.{not_refused, is_of_run, row_of_change_fits, id_is_there};
 ghost use Rattle.sqlite_tables.specs.Prelude.{kinds_in, layout_at, OnlyBy, IsKnown, IsSure, ReadsOnly, rows_of, tree_found};
 ghost use Rattle.sqlite_writes.specs.Kinds.{write_causes};
+ghost use Rattle.sqlite_writes.specs.Watched.{Looks};
 ghost use Rattle.sqlite_writes.specs.Splitting.{IsNamedOnce};
 ghost use Rattle.sqlite_writes.specs.Writable.{IsWritable, IsSureWrite};
 ghost use Rattle.wrapper_parts.specs.Staged.{change_is};
@@ -19,7 +20,7 @@ use med_value::limits::ROW_LIMIT;
 use sqlite::Connection;
 use sqlite_tables::{SourceStore, count_rows, find_table};
 use sqlite_writes::law::changes_are_a_rewrite;
-use sqlite_writes::{Split, entries_rise, rewrite, split_changes};
+use sqlite_writes::{Split, Watch, entries_rise, rewrite, split_changes};
 use std::alloc::Global;
 use wrapper_parts::RowChange;
 
@@ -62,10 +63,12 @@ fn rows_there<S: SourceStore>(
 /// its number of rows before is taken for it, where it leaves room for the write.
 ///
 /// Refused by 23502 where a new row has no key, by 54000 where more than 1,000,000 rows would be left, and by 23505 where two would have
-/// one key; then the rows are as they were.
+/// one key; then the rows are as they were. It fails, and does not use the connection, where the files of the database are not those that
+/// were opened.
 pub(crate) fn write_rows<S: SourceStore>(
     alloc: Global,
     conn: &mut Connection<S>,
+    watch: &mut Watch,
     table: u64,
     held: Option<usize>,
     changes: Vec<RowChange>,
@@ -95,12 +98,15 @@ pub(crate) fn write_rows<S: SourceStore>(
     ensures sure_same { IsSureWrite (state S.Store conn.old) (state S.Store conn.new) table
         → OnErr result ((state S.Store conn.new).now ≡ (state S.Store conn.old).now) }
     ensures idle { conn.new.in_transaction ≡ false }
+    ensures looked { (conn.new ≡ conn.old) ⊎ Looks watch.old watch.new true }
+    ensures seen { OnOk result (Looks watch.old watch.new true) }
 {
     changes_are_a_rewrite();
     let split = match split_changes(alloc, table, changes) {
         Ok(split) => split,
         Err(fault) => return Err(fault),
     };
+    watch.look()?;
     entries_rise(conn, table);
     let fresh = split.fresh.len();
     let gone = split.gone.len();

@@ -6,3 +6,4 @@ pub mod Kinds
 pub mod Splitting
 pub mod Found
 pub mod Made
+pub mod Watched

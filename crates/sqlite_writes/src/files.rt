@@ -6,6 +6,7 @@ ghost use Rattle.sqlite_tables.specs.Prelude.{layout_at, IsKnown};
 ghost use Rattle.sqlite_writes.specs.Writable.{AreApart, IsWritable};
 ghost use Rattle.sqlite_writes.specs.Found.{Errors, Follows, IsFoundAt, ShowsAt, ShowsKnown};
 
+use crate::watch::Watch;
 use sqlite::{Connection, Error};
 use sqlite_tables::SourceStore;
 
@@ -17,6 +18,15 @@ pub trait DatabaseFiles: Drop {
     ghost image: { Self → Option Image };
 
     ghost refuses: { Self → Errors };
+}
+
+/// A database that was opened, and what looks whether its files are still those at its path.
+#[derive(Drop)]
+pub struct Opened<S: SourceStore + Drop> {
+    /// The connection to the database.
+    pub conn: Connection<S>,
+    /// What looks at its files.
+    pub watch: Watch,
 }
 
 /// What opens the databases of a program: its runtime, or what a test has in its place.
@@ -43,41 +53,41 @@ pub trait Databases {
         ensures told { IfOk result (λ files. Follows (Self.Files.DatabaseFiles.refuses files) (refuses self.now path.now)) }
         ensures err { IfErr result (refuses self.now path.now) };
 
-    /// The database in these files, in no transaction. Of one whose store always returns what was written each layout's three texts are
-    /// for one table, of no two layouts the same, or are not understood.
+    /// The database in these files, in no transaction, with what looks at them. Of one whose store always returns what was written each
+    /// layout's three texts are for one table, of no two layouts the same, or are not understood.
     ///
     /// It is refused where it cannot be read.
-    fn connect(&self, files: Self::Files) -> Result<Connection<Self::Store>, Error>
-        ensures found { IfOk result (λ conn. ShowsKnown (Self.Files.DatabaseFiles.image files) (state Self.Store.Store conn)) }
+    fn connect(&self, files: Self::Files) -> Result<Opened<Self::Store>, Error>
+        ensures found { IfOk result (λ o. ShowsKnown (Self.Files.DatabaseFiles.image files) (state Self.Store.Store o.conn)) }
         ensures known { (table : ℕ) → Self.Store.SourceStore.honest ≡ true
-            → IfOk result (λ conn. ∥ IsKnown conn.schema (layout_at table) ∥₁) }
+            → IfOk result (λ o. ∥ IsKnown o.conn.schema (layout_at table) ∥₁) }
         ensures writable { (table : ℕ) → Self.Store.SourceStore.honest ≡ true
-            → IfOk result (λ conn. ∥ IsWritable conn.schema table ∥₁) }
-        ensures apart { Self.Store.SourceStore.honest ≡ true → IfOk result (λ conn. AreApart conn.schema) }
-        ensures idle { IfOk result (λ conn. conn.in_transaction ≡ false) }
+            → IfOk result (λ o. ∥ IsWritable o.conn.schema table ∥₁) }
+        ensures apart { Self.Store.SourceStore.honest ≡ true → IfOk result (λ o. AreApart o.conn.schema) }
+        ensures idle { IfOk result (λ o. o.conn.in_transaction ≡ false) }
         ensures err { IfErr result (Self.Files.DatabaseFiles.refuses files) };
 }
 
-/// The database at this path, in no transaction: that of the files that stand there, where these are known. Of one whose store always
-/// returns what was written that is said with no look at its disk, and each layout's three texts are for one table, of no two layouts the
-/// same, or are not understood.
+/// The database at this path, in no transaction, with what looks at its files: that of the files that stand there, where these are known.
+/// Of one whose store always returns what was written that is said with no look at its disk, and each layout's three texts are for one
+/// table, of no two layouts the same, or are not understood.
 ///
 /// # Errors
 ///
 /// The database cannot be opened or read: the error is the one that was told of its path, or of its files.
-pub fn open_database<V: Databases>(rt: &V, path: &str) -> Result<Connection<V::Store>, Error>
-    ensures file { IfOk result (ShowsAt V.Store.Store (V.stands rt.now) path.now) }
+pub fn open_database<V: Databases>(rt: &V, path: &str) -> Result<Opened<V::Store>, Error>
+    ensures file { IfOk result (λ o. ShowsAt V.Store.Store (V.stands rt.now) path.now o.conn) }
     ensures there { V.Store.SourceStore.honest ≡ true
-        → IfOk result (λ conn. IsFoundAt (V.stands rt.now) path.now (state V.Store.Store conn).now) }
-    ensures known { (table : ℕ) → V.Store.SourceStore.honest ≡ true → IfOk result (λ conn. ∥ IsKnown conn.schema (layout_at table) ∥₁) }
-    ensures writable { (table : ℕ) → V.Store.SourceStore.honest ≡ true → IfOk result (λ conn. ∥ IsWritable conn.schema table ∥₁) }
-    ensures apart { V.Store.SourceStore.honest ≡ true → IfOk result (λ conn. AreApart conn.schema) }
-    ensures idle { IfOk result (λ conn. conn.in_transaction ≡ false) }
+        → IfOk result (λ o. IsFoundAt (V.stands rt.now) path.now (state V.Store.Store o.conn).now) }
+    ensures known { (table : ℕ) → V.Store.SourceStore.honest ≡ true → IfOk result (λ o. ∥ IsKnown o.conn.schema (layout_at table) ∥₁) }
+    ensures writable { (table : ℕ) → V.Store.SourceStore.honest ≡ true → IfOk result (λ o. ∥ IsWritable o.conn.schema table ∥₁) }
+    ensures apart { V.Store.SourceStore.honest ≡ true → IfOk result (λ o. AreApart o.conn.schema) }
+    ensures idle { IfOk result (λ o. o.conn.in_transaction ≡ false) }
     ensures err { IfErr result (V.refuses rt.now path.now) }
 {
     let files = rt.open_files(path)?;
-    let conn = rt.connect(files)?;
-    let _idle = conn.is_autocommit();
-    let _schema = conn.schema();
-    Ok(conn)
+    let opened = rt.connect(files)?;
+    let _idle = opened.conn.is_autocommit();
+    let _schema = opened.conn.schema();
+    Ok(opened)
 }

@@ -11,9 +11,11 @@ pub mod split;
 mod statements;
 pub mod system;
 mod texts;
+pub mod watch;
 
-pub use files::{Databases, open_database};
+pub use files::{Databases, Opened, open_database};
 pub use made::memory_database;
 pub use rewriting::{entries_rise, rewrite};
 pub use rows::{delete_row, insert_row};
 pub use split::{Split, split_changes};
+pub use watch::Watch;

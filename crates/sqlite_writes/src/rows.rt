@@ -10,7 +10,7 @@ ghost use Rattle.med_value.specs.declared.cause.Cause.TheVariants.{NotUnique};
 ghost use Rattle.fdw_api.specs.Prelude.{not_refused, cell_fits};
 ghost use Rattle.sqlite_tables.specs.Prelude.{IsCleanAfter, layout_at, entries_in, OnlyBy};
 ghost use Rattle.sqlite_writes.specs.Writable.{IsWritable, IsSureStep, KeepsTables, StepsTo};
-ghost use Rattle.sqlite_writes.specs.Stored.{stored_row, taken_key};
+ghost use Rattle.sqlite_writes.specs.Stored.{IsFaultOf, IsReported, inserted_cells, stored_row, taken_key};
 
 use crate::statements::{delete, insert};
 use crate::texts::{delete_text, insert_text};
@@ -61,6 +61,7 @@ fn fault_of_insert(error: Error) -> Fault
     ensures taken { error ≡ taken_key → result ≡ Fault.Refused NotUnique }
     ensures memory { error ≡ Error.SqliteFailure ErrorCode.OutOfMemory → result ≡ Fault.NoMemory }
     ensures refused { OnlyBy (λ c. (c ≡ NotUnique) × (error ≡ taken_key)) result }
+    ensures is { IsFaultOf error result }
 {
     match error {
         Error::SqliteFailure(ErrorCode::ConstraintViolation(Constraint::PrimaryKey)) =>
@@ -71,7 +72,8 @@ fn fault_of_insert(error: Error) -> Fault
 
 /// Puts a row of a key and two further cells into a table, in its place by key, inside a transaction.
 ///
-/// Refused by 23505, the table has a row of this key; no other cause is told. What was committed last stays so. It is so over a store that
+/// Refused by 23505, the table has a row of this key; no other cause is told. It fails as the source where the connection reported an error
+/// that is neither a repeated key nor want of memory (`IsReported`). What was committed last stays so. It is so over a store that
 /// always returns what was written, and of each call by itself that is sure (`IsSureStep`).
 pub fn insert_row<'x, S: SourceStore>(
     tx: &mut Transaction<'_, S>,
@@ -111,6 +113,8 @@ pub fn insert_row<'x, S: SourceStore>(
         → OnOk result (StepsTo (state S.Store tx.old.conn.now) (state S.Store tx.new.conn.now) table) }
     ensures sure_kept { IsSureStep (state S.Store tx.old.conn.now) (state S.Store tx.new.conn.now) table
         → (state S.Store tx.new.conn.now).committed ≡ (state S.Store tx.old.conn.now).committed }
+    ensures reported { IfErr result (IsReported (layout_at table).inserting (inserted_cells key (datum second.now) (datum third.now))
+        (state S.Store tx.old.conn.now) (state S.Store tx.new.conn.now)) }
     ensures was_clean { IsCleanAfter (state S.Store tx.new.conn.now) → IsCleanAfter (state S.Store tx.old.conn.now) }
 {
     match insert(tx, insert_text(table), key, second, third) {

@@ -11,7 +11,7 @@ ghost use Rattle.fdw_api.specs.Scan.{cell_fits};
 ghost use Rattle.std.specs.Prelude.{Some};
 ghost use Rattle.sqlite_tables.specs.Prelude.{IsCleanAfter, IsDeleteText, IsInsertText, IsUnread};
 ghost use Rattle.sqlite_writes.specs.Changes.{TakesOut, PutsIn};
-ghost use Rattle.sqlite_writes.specs.Stored.{stored, stored_row, taken_key};
+ghost use Rattle.sqlite_writes.specs.Stored.{Reports, inserted_cells, stored, stored_row, taken_key};
 
 use med_value::Value;
 use sqlite::types::ValueRef;
@@ -104,6 +104,8 @@ pub(crate) fn insert<'x, S: SourceStore>(
         → OnOk result (IsTrue tx.new.conn.now.in_transaction) }
     ensures sure_kept { IsCleanAfter (state S.Store tx.new.conn.now) → IsTrue tx.old.conn.now.in_transaction
         → (state S.Store tx.new.conn.now).committed ≡ (state S.Store tx.old.conn.now).committed }
+    ensures reported { IfErr result (Reports text.now (inserted_cells key (datum second.now) (datum third.now))
+        (state S.Store tx.old.conn.now) (state S.Store tx.new.conn.now)) }
     ensures was_clean { IsCleanAfter (state S.Store tx.new.conn.now) → IsCleanAfter (state S.Store tx.old.conn.now) }
 {
     let second = cell_of(second);

@@ -9,7 +9,9 @@ ghost use Rattle.sqlite_tables.specs.Prelude.{layout_at, IsKnown};
 ghost use Rattle.sqlite_writes.specs.Writable.{AreApart, IsWritable};
 ghost use Rattle.sqlite_writes.specs.Found.{ShowsImage};
 
-use crate::files::{DatabaseFiles, Databases};
+use crate::files::{DatabaseFiles, Databases, Opened};
+use crate::watch::Watch;
+use fdw_api::interface::Fault;
 use sqlite::{Connection, Error, ErrorCode, File, FileStore, Files, Options, Start, Unknown};
 use sqlite_disk::Disk;
 use sqlite_std_file::OpenError;
@@ -25,6 +27,7 @@ const CANNOT_OPEN: Error = Error::SqliteFailure(ErrorCode::CannotOpen);
 #[derive(Drop)]
 pub struct SystemFiles {
     pair: Files<File>,
+    watch: Watch,
     ghost log: { IsTrue (file_is_usable ⟦<Unknown as Start>⟧ pair.log) },
     ghost db: { IsTrue (file_is_usable ⟦<Unknown as Start>⟧ pair.db) },
 }
@@ -53,6 +56,42 @@ fn options(rt: &HostRuntime) -> Result<Options, Error> {
     }
 }
 
+// What looks at the files of a database. Those that are missing are made, as each opening does.
+fn watch_over(rt: &HostRuntime, path: &str) -> Result<Watch, Error> {
+    if let Some(watch) = found_watch(rt, path)? {
+        return Ok(watch);
+    }
+    match sqlite_std_file::open(rt, path, Unknown) {
+        Ok(_) => {}
+        Err(error) => return Err(error_of(error)),
+    }
+    match found_watch(rt, path)? {
+        Some(watch) => Ok(watch),
+        None => Err(CANNOT_OPEN),
+    }
+}
+
+// What looks at the files of a database that is there.
+fn found_watch(rt: &HostRuntime, path: &str) -> Result<Option<Watch>, Error> {
+    match Watch::over(rt, path) {
+        Ok(found) => Ok(found),
+        Err(_) => Err(NO_MEMORY),
+    }
+}
+
+// Refuses files that are not those that the watch saw before they were opened.
+fn same_files(pair: Files<File>, watch: Watch) -> Result<SystemFiles, Error>
+    requires log { IsTrue (file_is_usable ⟦<Unknown as Start>⟧ pair.log) }
+    requires db { IsTrue (file_is_usable ⟦<Unknown as Start>⟧ pair.db) }
+{
+    let mut watch = watch;
+    match watch.look() {
+        Ok(()) => Ok(SystemFiles { pair, watch }),
+        Err(Fault::NoMemory) => Err(NO_MEMORY),
+        Err(_) => Err(CANNOT_OPEN),
+    }
+}
+
 impl Databases for HostRuntime {
     type Files = SystemFiles;
 
@@ -67,26 +106,28 @@ impl Databases for HostRuntime {
         if path == ":memory:" || path.starts_with("file:") {
             return Err(CANNOT_OPEN);
         }
+        let watch = watch_over(self, path)?;
         match sqlite_std_file::open(self, path, Unknown) {
-            Ok(pair) => Ok(SystemFiles { pair }),
+            Ok(pair) => same_files(pair, watch),
             Err(error) => Err(error_of(error)),
         }
     }
 
-    fn connect(&self, files: SystemFiles) -> Result<Connection<FileStore<File>>, Error>
-        ensures found { IfOk result (λ conn. ShowsImage (image_of ⟦<File as Disk>⟧ files.pair) (file_state conn)) }
+    fn connect(&self, files: SystemFiles) -> Result<Opened<FileStore<File>>, Error>
+        ensures found { IfOk result (λ o. ShowsImage (image_of ⟦<File as Disk>⟧ files.pair) (file_state o.conn)) }
         ensures known { (table : ℕ) → ⟦<FileStore<File> as SourceStore>⟧.honest ≡ true
-            → IfOk result (λ conn. ∥ IsKnown conn.schema (layout_at table) ∥₁) }
+            → IfOk result (λ o. ∥ IsKnown o.conn.schema (layout_at table) ∥₁) }
         ensures writable { (table : ℕ) → ⟦<FileStore<File> as SourceStore>⟧.honest ≡ true
-            → IfOk result (λ conn. ∥ IsWritable conn.schema table ∥₁) }
-        ensures apart { ⟦<FileStore<File> as SourceStore>⟧.honest ≡ true → IfOk result (λ conn. AreApart conn.schema) }
-        ensures idle { IfOk result (λ conn. conn.in_transaction ≡ false) }
+            → IfOk result (λ o. ∥ IsWritable o.conn.schema table ∥₁) }
+        ensures apart { ⟦<FileStore<File> as SourceStore>⟧.honest ≡ true → IfOk result (λ o. AreApart o.conn.schema) }
+        ensures idle { IfOk result (λ o. o.conn.in_transaction ≡ false) }
     {
         let options = options(self)?;
-        match Connection::open_files_with(self.alloc(), files.pair, options, false) {
+        let SystemFiles { pair, watch } = files;
+        match Connection::open_files_with(self.alloc(), pair, options, false) {
             Ok(mut conn) => {
                 conn.set_clock(self);
-                Ok(conn)
+                Ok(Opened { conn, watch })
             }
             Err((error, _)) => Err(error),
         }

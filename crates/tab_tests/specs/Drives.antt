@@ -19,6 +19,7 @@ drive_of d = record {
   at = at_path d.files;
   held = option_map string_bytes d.held;
   locked = d.locked;
+  waits = d.waits;
   making = option_map string_bytes d.making;
   settled = d.settled;
   faults = d.faults;

@@ -1,10 +1,10 @@
 //! A disk in memory.
-ghost use Rattle.std.specs.Prelude.{◌≡◌, ◌+◌, true, false, take, Some, IsTrue, IfOk, IfErr, IfSome};
+ghost use Rattle.std.specs.Prelude.{◌≡◌, ◌+◌, true, false, take, Some, None, IsTrue, IfOk, IfErr, IfSome};
 ghost use Rattle.tab_tests.specs.Drives.{at_path, ChangesAt};
 
 use crate::files::{Files, Stored};
 use blob_store::Disk;
-use blob_store::disk::{DiskFault, Found, Kind, Stamp, Told};
+use blob_store::disk::{DiskFault, Kind, LockTry, Stamp, Time, Told};
 use std::alloc::Global;
 
 // The first bytes of some, at most so many.
@@ -71,34 +71,43 @@ fn change(
     }
 }
 
+/// A moment of the clock of a disk in memory.
+pub const NOW: Time = Time {
+    seconds: 5,
+    nanoseconds: 0,
+};
+
 // What is told of a new file.
-fn new_told(next: &mut u64, like: Option<Told>) -> Told
-    ensures kind { result.kind ≡ Kind.Regular }
-    ensures mode { IfSome like (λ l. result.mode ≡ l.mode) }
+fn new_told(next: &mut u64) -> Told
+    ensures { result.kind ≡ Kind.Regular }
 {
-    let stamp = Stamp {
-        device: 1,
-        inode: *next,
-        length: 0,
-        seconds: 0,
-        nanoseconds: 0,
-    };
+    let inode = *next;
     *next = next.saturating_add(1);
-    match like {
-        Some(like) => Told {
-            kind: Kind::Regular,
-            mode: like.mode,
-            owner: like.owner,
-            group: like.group,
-            stamp,
+    Told {
+        kind: Kind::Regular,
+        mode: 0o644,
+        owner: 0,
+        group: 0,
+        stamp: Stamp {
+            device: 1,
+            inode,
+            length: 0,
+            written: NOW,
+            changed: NOW,
         },
-        None => Told {
+    }
+}
+
+// What is told of a regular file.
+fn regular(told: Told) -> Told
+    ensures { told.kind ≡ Kind.Regular → result ≡ told }
+{
+    match told.kind {
+        Kind::Link => Told {
             kind: Kind::Regular,
-            mode: 0o644,
-            owner: 0,
-            group: 0,
-            stamp,
+            ..told
         },
+        Kind::Regular | Kind::Other => told,
     }
 }
 
@@ -109,6 +118,7 @@ pub struct MemoryDisk {
     files: Files,
     held: Option<String>,
     locked: bool,
+    waits: u64,
     making: Option<String>,
     settled: bool,
     faults: u64,
@@ -128,6 +138,7 @@ impl MemoryDisk {
             files: Files::new(alloc),
             held: None,
             locked: false,
+            waits: 0,
             making: None,
             settled: false,
             faults: 0,
@@ -158,6 +169,8 @@ impl Disk for MemoryDisk {
 
     ghost drive = { λ d. Some (drive_of d) };
 
+    ghost log = { λ _. None };
+
     fn look(&mut self, path: &str) -> Result<Option<Told>, DiskFault> {
         if is_due(&mut self.passes, &mut self.faults) {
             return Err(DiskFault::Failed);
@@ -168,34 +181,36 @@ impl Disk for MemoryDisk {
         }
     }
 
-    fn read(&mut self, alloc: Global, path: &str, most: u64) -> Result<Option<Found>, DiskFault> {
+    fn look_draft(&mut self, path: &str) -> Result<Option<Told>, DiskFault> {
         if is_due(&mut self.passes, &mut self.faults) {
             return Err(DiskFault::Failed);
         }
         match self.files.get(path) {
-            Some(stored) => {
-                let front = first_bytes(&stored.bytes, most);
-                match Vec::from_slice(alloc, front) {
-                    Ok(bytes) => Ok(Some(Found {
-                        told: stored.told,
-                        bytes,
-                    })),
-                    Err(_) => Err(DiskFault::NoMemory),
-                }
-            }
+            Some(stored) => Ok(Some(stored.told)),
             None => Ok(None),
         }
     }
 
-    fn hold(&mut self, folder: &str) -> Result<bool, DiskFault> {
+    fn follow(&mut self, path: &str) -> Result<Told, DiskFault> {
+        if is_due(&mut self.passes, &mut self.faults) {
+            return Err(DiskFault::Failed);
+        }
+        match self.files.get(path) {
+            Some(stored) => Ok(regular(stored.told)),
+            None => Err(refusal(&mut self.faults)),
+        }
+    }
+
+    fn open_folder(&mut self, folder: &str) -> Result<(), DiskFault> {
         if is_due(&mut self.passes, &mut self.faults) {
             return Err(DiskFault::Failed);
         }
         match String::from_str(self.alloc, folder) {
             Ok(folder) => {
                 self.held = Some(folder);
-                self.locked = self.has_locks;
-                Ok(self.has_locks)
+                self.locked = false;
+                self.waits = 0;
+                Ok(())
             }
             Err(_) => Err(DiskFault::NoMemory),
         }
@@ -208,7 +223,20 @@ impl Disk for MemoryDisk {
         Ok(())
     }
 
-    fn make(&mut self, path: &str, like: Option<Told>) -> Result<(), DiskFault> {
+    fn try_lock(&mut self) -> LockTry {
+        if is_due(&mut self.passes, &mut self.faults) {
+            return LockTry::Refused(5);
+        }
+        if !self.has_locks {
+            return LockTry::Refused(95);
+        }
+        self.locked = true;
+        LockTry::Taken
+    }
+
+    fn wait(&mut self) {}
+
+    fn create(&mut self, path: &str, _mode: u32) -> Result<(), DiskFault> {
         if is_due(&mut self.passes, &mut self.faults) {
             return Err(DiskFault::Failed);
         }
@@ -219,7 +247,7 @@ impl Disk for MemoryDisk {
             return Err(DiskFault::NoMemory);
         };
         let stored = Stored {
-            told: new_told(&mut self.next, like),
+            told: new_told(&mut self.next),
             bytes: Vec::new(self.alloc),
             synced: false,
         };
@@ -232,6 +260,70 @@ impl Disk for MemoryDisk {
         }
     }
 
+    fn stat_draft(&mut self, path: &str) -> Result<Told, DiskFault> {
+        if is_due(&mut self.passes, &mut self.faults) {
+            return Err(DiskFault::Failed);
+        }
+        match self.files.get(path) {
+            Some(stored) => Ok(stored.told),
+            None => Err(DiskFault::Failed),
+        }
+    }
+
+    fn set_mode(&mut self, path: &str, mode: u32) -> Result<(), DiskFault> {
+        if is_due(&mut self.passes, &mut self.faults) {
+            return Err(DiskFault::Failed);
+        }
+        let Some(stored) = self.files.get(path) else {
+            return Err(DiskFault::NoMemory);
+        };
+        let told = Told {
+            mode,
+            ..stored.told
+        };
+        let Ok(bytes) = Vec::from_slice(self.alloc, &stored.bytes) else {
+            return Err(DiskFault::NoMemory);
+        };
+        let stored = Stored {
+            told,
+            bytes,
+            synced: stored.synced,
+        };
+        match self.files.put(self.alloc, path, stored) {
+            Ok(()) => Ok(()),
+            Err(_) => Err(DiskFault::NoMemory),
+        }
+    }
+
+    fn set_group(&mut self, path: &str, group: u32) -> Result<(), DiskFault> {
+        if is_due(&mut self.passes, &mut self.faults) {
+            return Err(DiskFault::Failed);
+        }
+        let Some(stored) = self.files.get(path) else {
+            return Err(DiskFault::NoMemory);
+        };
+        let told = Told {
+            group,
+            ..stored.told
+        };
+        let Ok(bytes) = Vec::from_slice(self.alloc, &stored.bytes) else {
+            return Err(DiskFault::NoMemory);
+        };
+        let stored = Stored {
+            told,
+            bytes,
+            synced: stored.synced,
+        };
+        match self.files.put(self.alloc, path, stored) {
+            Ok(()) => Ok(()),
+            Err(_) => Err(DiskFault::NoMemory),
+        }
+    }
+
+    fn set_owner(&mut self, _path: &str, _owner: u32) -> bool {
+        false
+    }
+
     fn write(&mut self, path: &str, bytes: &[u8]) -> Result<(), DiskFault> {
         if is_due(&mut self.passes, &mut self.faults) {
             return Err(DiskFault::Failed);
@@ -242,15 +334,11 @@ impl Disk for MemoryDisk {
         }
     }
 
-    fn sync(&mut self, path: &str) -> Result<Told, DiskFault> {
+    fn sync(&mut self, path: &str) -> Result<(), DiskFault> {
         if is_due(&mut self.passes, &mut self.faults) {
             return Err(DiskFault::Failed);
         }
-        change(&mut self.files, self.alloc, path, b"", true)?;
-        match self.files.get(path) {
-            Some(stored) => Ok(stored.told),
-            None => Err(refusal(&mut self.faults)),
-        }
+        change(&mut self.files, self.alloc, path, b"", true)
     }
 
     fn rename(&mut self, from: &str, to: &str) -> Result<(), DiskFault> {
@@ -263,10 +351,14 @@ impl Disk for MemoryDisk {
         let Ok(stored) = stored.with(self.alloc, b"", stored.synced) else {
             return Err(DiskFault::NoMemory);
         };
+        let Ok(making) = String::from_str(self.alloc, to) else {
+            return Err(DiskFault::NoMemory);
+        };
         match self.files.put(self.alloc, to, stored) {
             Ok(()) => {
                 self.files.remove(from);
                 self.settled = false;
+                self.making = Some(making);
                 Ok(())
             }
             Err(_) => Err(DiskFault::NoMemory),
@@ -294,4 +386,39 @@ impl Disk for MemoryDisk {
         self.locked = false;
         self.making = None;
     }
+
+    fn open_file(&mut self, path: &str) -> Result<(), DiskFault> {
+        if is_due(&mut self.passes, &mut self.faults) {
+            return Err(DiskFault::Failed);
+        }
+        match self.files.get(path) {
+            Some(_) => Ok(()),
+            None => Err(refusal(&mut self.faults)),
+        }
+    }
+
+    fn stat_file(&mut self, path: &str) -> Result<Told, DiskFault> {
+        if is_due(&mut self.passes, &mut self.faults) {
+            return Err(DiskFault::Failed);
+        }
+        match self.files.get(path) {
+            Some(stored) => Ok(regular(stored.told)),
+            None => Err(refusal(&mut self.faults)),
+        }
+    }
+
+    fn read(&mut self, alloc: Global, path: &str, most: u64) -> Result<Vec<u8>, DiskFault> {
+        if is_due(&mut self.passes, &mut self.faults) {
+            return Err(DiskFault::Failed);
+        }
+        let Some(stored) = self.files.get(path) else {
+            return Err(refusal(&mut self.faults));
+        };
+        match Vec::from_slice(alloc, first_bytes(&stored.bytes, most)) {
+            Ok(bytes) => Ok(bytes),
+            Err(_) => Err(DiskFault::NoMemory),
+        }
+    }
+
+    fn close_file(&mut self) {}
 }

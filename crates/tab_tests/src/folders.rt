@@ -1,5 +1,5 @@
 //! Blobs of a folder on a disk in memory.
-use crate::disk::MemoryDisk;
+use crate::disk::{MemoryDisk, NOW};
 use crate::files::Stored;
 use blob_store::disk::{Kind, Stamp, Told};
 use blob_store::{BlobFault, Blobs, Folder, is_blob_name};
@@ -24,8 +24,8 @@ pub fn stored(
                 device: 1,
                 inode,
                 length: bytes.len() as u64,
-                seconds: 5,
-                nanoseconds: 0,
+                written: NOW,
+                changed: NOW,
             },
         },
         bytes: Vec::from_slice(alloc, bytes)?,

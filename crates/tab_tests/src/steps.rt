@@ -1,5 +1,5 @@
 //! A file that is replaced on a disk in memory, each of whose calls fails in turn.
-use crate::disk::MemoryDisk;
+use crate::disk::{MemoryDisk, NOW};
 use crate::folders::{disk, stored};
 use blob_store::disk::{Kind, Stamp};
 use blob_store::marks::Mark;
@@ -12,12 +12,12 @@ const SEEN: Mark = Mark::Seen(Stamp {
     device: 1,
     inode: 101,
     length: 5,
-    seconds: 5,
-    nanoseconds: 0,
+    written: NOW,
+    changed: NOW,
 });
 
 // Replaces `d/a`, by two pieces.
-fn put(disk: &mut MemoryDisk, mark: Mark) -> Result<Stamp, PutFault> {
+fn put(disk: &mut MemoryDisk, mark: Mark) -> Result<Mark, PutFault> {
     let pieces: [&[u8]; 2] = [b"new", b" a"];
     put_file(disk, "d", "d/.fedq.tmp", "d/a", mark, &pieces)
 }
@@ -43,7 +43,7 @@ fn is_beside(disk: &MemoryDisk) -> bool {
 
 // Replaces `d/a` while the call after so many fails: it is told, and the files are as they were; or else the file is replaced whole.
 fn check(alloc: Global, has_locks: bool, passes: u64, calls: u64) -> Result<(), Fail> {
-    let needed = calls.saturating_sub(1);
+    let needed = calls.saturating_sub(2);
     let mut disk = disk(alloc, has_locks, Some(passes))?;
     let answer = put(&mut disk, SEEN);
     let (_, is_settled, faults) = disk.state();
@@ -51,17 +51,21 @@ fn check(alloc: Global, has_locks: bool, passes: u64, calls: u64) -> Result<(), 
         Err(fault) => fault == PutFault::Failed && is_as_before(&disk) && passes < needed,
         Ok(_) => is_file(&disk, "d/a", 0o640, b"new a") && is_beside(&disk) && passes >= needed,
     };
-    if is_right && is_settled == (passes >= calls) && faults == u64::from(passes < calls) {
+    if is_right
+        && is_settled == (passes >= needed && passes != calls.saturating_sub(1))
+        && faults == u64::from(passes < calls)
+    {
         return Ok(());
     }
     Err(format!(in alloc; "{passes} calls passed: {answer:?}")?)?
 }
 
-// hold, look, probe, remove, make, write, write, sync, rename, settle: of these the last may fail when all is done
+// open, lock, look, probe, remove, create, stat, group, mode, write, write, sync, stat, look, look, rename, stat, settle: of these the last
+// two may fail when all is done
 #[test]
 fn each_call_fails_in_turn(rt: HostRuntime) -> Result<(), Fail> {
-    for passes in 0..12 {
-        check(rt.alloc(), true, passes, 10)?;
+    for passes in 0..20 {
+        check(rt.alloc(), true, passes, 18)?;
     }
     Ok(())
 }
@@ -69,8 +73,8 @@ fn each_call_fails_in_turn(rt: HostRuntime) -> Result<(), Fail> {
 // the same without remove
 #[test]
 fn each_call_fails_in_turn_without_locks(rt: HostRuntime) -> Result<(), Fail> {
-    for passes in 0..12 {
-        check(rt.alloc(), false, passes, 9)?;
+    for passes in 0..20 {
+        check(rt.alloc(), false, passes, 17)?;
     }
     Ok(())
 }

@@ -1,6 +1,7 @@
 pub mod Weaves
 pub mod Indexing
 pub mod Taking
+pub mod Leading
 pub mod Skipping
 pub mod RangeLemmas
 pub mod Halving

@@ -5,7 +5,7 @@ use Rattle.med_value.specs.Datum.{Datum, Tuple, cell}
 use Rattle.med_value.specs.declared.order.Comparison.TheVariants as comparisons
 use Rattle.fdw_api.specs.Scan.{Spec, RestrictionForm, TestForm, Compares, Missing, Present, Given, Slot, TableRow, meets_exact}
 use Rattle.wrapper_parts.specs.declared.sought.Sought.{Sought}
-use Rattle.wrapper_parts.specs.declared.index.PlaceIndex.{PlaceIndex}
+use Rattle.wrapper_parts.specs.declared.sought.SoughtIndex.{SoughtIndex}
 use Rattle.wrapper_parts.specs.Places.{equals, Follows}
 use Rattle.wrapper_parts.specs.Indexes.{IsIndexFrom}
 
@@ -77,13 +77,16 @@ rows_at_places (p ∷ ps) rows = take 1 (drop p rows) ++ rows_at_places ps rows
 abbrev pub taken_at : Spec → Tuple → List ℕ → List TableRow → List TableRow
 taken_at spec params ps rows = filter (is_exact spec params) (rows_at_places ps rows)
 
--- an index serves a scan of these rows: it is that of the column in which the scan looks for a parameter
-abbrev pub Serves : Spec → List TableRow → Option PlaceIndex → Type 0
+-- a column and a parameter lead a scan: each row that it takes has the parameter's value in the column
+abbrev pub Leads : Spec → SoughtForm → Type 0
+Leads spec s = (params cells : Tuple) → takes spec params cells ≡ true → equals (cell params s.parameter) (cell cells s.column) ≡ true
+
+-- an index serves a scan of these rows: it is that of a column that leads the scan
+abbrev pub Serves : Spec → List TableRow → Option SoughtIndex → Type 0
 Serves spec rows index =
-    (x : PlaceIndex) (s : SoughtForm) → index ≡ Some x → sought spec.offered ≡ Some s → IsIndexFrom 0 (column_cells s.column rows) x
+    (x : SoughtIndex) → index ≡ Some x → Leads spec (form_of x.found) × IsIndexFrom 0 (column_cells x.found.column rows) x.places
 
 -- a scan stands at a place from which its index goes on
-abbrev pub Stands : Spec → Tuple → List TableRow → ℕ → Option PlaceIndex → Type 0
+abbrev pub Stands : Spec → Tuple → List TableRow → ℕ → Option SoughtIndex → Type 0
 Stands spec params rows at index =
-    (x : PlaceIndex) (s : SoughtForm) → index ≡ Some x → sought spec.offered ≡ Some s
-    → Follows (cell params s.parameter) (column_cells s.column rows) at
+    (x : SoughtIndex) → index ≡ Some x → Follows (cell params x.found.parameter) (column_cells x.found.column rows) at

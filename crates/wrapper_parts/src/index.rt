@@ -99,6 +99,19 @@ impl PlaceIndex {
         Ok(())
     }
 
+    /// Returns how many integers and texts it has. Of two indexes the one with more leads to fewer places; scans are right by either.
+    pub fn distinct(&self) -> usize {
+        self.firsts
+            .whole
+            .len()
+            .saturating_add(self.firsts.texts.len())
+    }
+
+    /// Returns whether a value has at most two places, on average.
+    pub fn is_sharp(&self) -> bool {
+        self.next.len() / 2 <= self.distinct()
+    }
+
     /// The first place, from a place on, of a cell that is equal to the value, and the number of cells where there is none.
     ///
     /// The place is 0, or the cell before it is equal to the value. It takes no memory, and looks at one cell alone.

@@ -21,6 +21,6 @@ pub use fates::{Fate, keep_all, set_fate};
 pub use index::PlaceIndex;
 pub use ranges::KeyRange;
 pub use rising::range_around;
-pub use sought::{Sought, sought_in, takes, value_at};
+pub use sought::{Sought, SoughtIndex, exact_at, first_lead, sought_in, takes, value_at};
 pub use splice::Splice;
 pub use tests_of_keys::{answers_for, range_of};

@@ -1,11 +1,12 @@
 //! What a scan looks for.
-ghost use Rattle.std.specs.Prelude.{◌≡◌, map, option_map};
+ghost use Rattle.std.specs.Prelude.{◌≡◌, map, option_map, true, IfSome};
 ghost use Rattle.med_value.specs.Datum.{datum, tuple, cell, NoValue};
 ghost use Rattle.fdw_api.specs.Scan.{restriction_form, spec_of};
 ghost use Rattle.wrapper_parts.specs.Places.{equals};
-ghost use Rattle.wrapper_parts.specs.Scans.{form_of, sought, sought_by, takes};
+ghost use Rattle.wrapper_parts.specs.Scans.{form_of, sought, sought_by, takes, Leads};
 
-use fdw_api::scan::{Operand, Restriction, ScanSpec, Test, meets_taken};
+use crate::index::PlaceIndex;
+use fdw_api::scan::{Agree, Operand, Restriction, ScanSpec, Test, meets_taken};
 use med_value::{Comparison, Row, Value};
 
 /// What a scan looks for: that the cell of a column is equal to a parameter, as `column = parameter` says.
@@ -15,6 +16,24 @@ pub struct Sought {
     pub column: usize,
     /// The parameter's number, counted from 0.
     pub parameter: usize,
+}
+
+/// An index by which a scan goes: of the cells of a column, each of which is looked for by its value under a parameter.
+#[derive(Drop)]
+pub struct SoughtIndex {
+    /// The column, and the parameter.
+    pub found: Sought,
+    /// The places of the column's cells.
+    pub places: PlaceIndex,
+}
+
+impl Sought {
+    /// Whether it looks for the same parameter in the same column.
+    pub fn is_of(self, other: Sought) -> bool
+        ensures { result ≡ true → form_of self ≡ form_of other }
+    {
+        self.column == other.column && self.parameter == other.parameter
+    }
 }
 
 // What a restriction looks for.
@@ -42,6 +61,26 @@ pub fn sought_in(offered: &[Restriction]) -> Option<Sought>
         offered = further;
     }
     None
+}
+
+/// What the restriction at a place looks for, if it was answered Exact: each row that the scan takes has it.
+pub fn exact_at(spec: &ScanSpec, at: usize) -> Option<Sought>
+    ensures { IfSome result (λ s. Leads (spec_of spec.now) (form_of s)) }
+{
+    let Some(restriction) = spec.offered.get(at) else {
+        return None;
+    };
+    match spec.agreement.answers.get(at) {
+        Some(Agree::Exact) => sought_by(restriction),
+        _ => None,
+    }
+}
+
+/// What a scan looks for first: each row that it takes has it.
+pub fn first_lead(spec: &ScanSpec) -> Option<Sought>
+    ensures { IfSome result (λ s. Leads (spec_of spec.now) (form_of s)) }
+{
+    sought_in(&spec.offered)
 }
 
 /// The value at a place, and where there is none the one that is given for it, NULL.

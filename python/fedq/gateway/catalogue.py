@@ -5,7 +5,7 @@ import re, sqlite3, time
 from concurrent.futures import Future, ThreadPoolExecutor
 from typing import Any, Dict, List, NamedTuple, Optional, Sequence, Tuple
 
-from ..sql import Token, line
+from ..sql import Token, with_depth
 from .catalogue_functions import SAFE, make_functions
 from .catalogue_rows import fill
 from .messages import Refused
@@ -15,6 +15,7 @@ from .translation import translated
 
 SECONDS, MOST_ROWS, MOST_BYTES, HEAP_BYTES = 2.0, 100_000, 1 << 25, 1 << 27
 STEPS = 10_000
+MOST_CHARACTERS, MOST_DEPTH = 1 << 16, 200
 READS = (sqlite3.SQLITE_SELECT, sqlite3.SQLITE_READ, sqlite3.SQLITE_RECURSIVE)
 # Tables that are always empty: a query of one that SQLite cannot read has no rows. (Such ask for keys, indexes, constraints, triggers.)
 EMPTY = frozenset("pg_index pg_constraint pg_trigger pg_policy pg_publication pg_rewrite pg_inherits pg_sequence pg_enum pg_range "
@@ -51,9 +52,11 @@ class Catalogue:
         self.asker = Asker(owner, "fedq", 0, {})
         self.tables: Dict[str, Object] = {}
         self.until = 0.0
+        self.is_own_table = False
 
     def ask(self, found: Sequence[Token], asker: Asker, objects: Any) -> Future:
-        """The answer to one query, by the thread. Fails with Refused."""
+        """The answer to one query, by the thread. Fails with Refused: 54000 where it is long, 54001 where it is nested deeply."""
+        judge_size(found)
         known, version = list(objects.known.values()), objects.version
         return self.thread.submit(self.answer, tuple(found), asker, known, version)
 
@@ -63,7 +66,7 @@ class Catalogue:
             self.make(known)
             self.version = version
         self.own_rows()
-        text = line(translated(list(found)))
+        text = " ".join([it.raw for it in translated(list(found))])  # (it is no request line: a text may have a line end)
         for part, other in KNOWN:
             text = text.replace(part, other)
         try:
@@ -72,6 +75,8 @@ class Catalogue:
             if "interrupted" in str(fault):
                 raise Refused("57014", f"the question to the catalogue took longer than {SECONDS:.0f} seconds",
                               "restrict it by WHERE, or ask of fewer tables")
+            if self.is_own_table:
+                raise Refused("42P01", "the tables of SQLite itself are not in the catalogue", "ask pg_class for the tables")
             names = names_of(found, {}) or []
             if not names or not any(it.value in EMPTY for it in found):
                 raise Refused("0A000", f"the gateway's catalogue cannot answer this: {str(fault)[:200]}",
@@ -108,15 +113,18 @@ class Catalogue:
         self.db.executemany("INSERT INTO pg_catalog.pg_settings (name, setting) VALUES (?, ?)", self.asker.settings.items())
         self.db.set_authorizer(self.may)
 
-    def may(self, action: int, _table: Optional[str], function: Optional[str], *_: Any) -> int:
+    def may(self, action: int, table: Optional[str], function: Optional[str], *_: Any) -> int:
         """What a question may do: read tables, and call functions that are known to end soon."""
+        if action == sqlite3.SQLITE_READ and table and table.lower().startswith("sqlite_"):
+            self.is_own_table = True
+            return sqlite3.SQLITE_DENY
         if action in READS or action == sqlite3.SQLITE_FUNCTION and function in SAFE:
             return sqlite3.SQLITE_OK
         return sqlite3.SQLITE_DENY
 
     def read(self, text: str) -> Tuple[List[str], List[Tuple[Any, ...]]]:
         """Names and rows of a query, within the bounds."""
-        self.until = time.monotonic() + SECONDS
+        self.until, self.is_own_table = time.monotonic() + SECONDS, False
         cursor = self.db.execute(text)
         try:
             rows, size = [], 0
@@ -131,6 +139,14 @@ class Catalogue:
 
     def close(self) -> None:
         self.thread.shutdown(wait=False)
+
+
+def judge_size(found: Sequence[Token]) -> None:
+    """Fails with Refused where a query is too long, or nested too deeply, to be translated and judged in little time."""
+    if len(found) > MOST_CHARACTERS or sum(len(it.raw) + 1 for it in found) > MOST_CHARACTERS:
+        raise Refused("54000", f"a question to the catalogue has at most {MOST_CHARACTERS:,} characters", "ask in parts")
+    if max((depth for _, depth in with_depth(found)), default=0) > MOST_DEPTH:
+        raise Refused("54001", f"a question to the catalogue is nested at most {MOST_DEPTH} levels deep", "ask more simply")
 
 
 def kind_of(values: Sequence[Any]) -> int:

@@ -31,12 +31,12 @@ Put = Callable[..., None]
 
 def fill(db: sqlite3.Connection, known: List[Object], owner: str) -> None:
     """Makes the tables and fills them. The file beside this one has all tables of PostgreSQL 15's catalogues: schema, name, columns, `:B`
-    for booleans, `:O` for numbers."""
+    for booleans, `:O` for numbers; a line that begins with two blanks goes on with the columns."""
     for schema in ("pg_catalog", "information_schema"):
         db.execute(f"ATTACH ':memory:' AS {schema}")
     with open(os.path.join(os.path.dirname(__file__), "catalogue_columns.txt")) as file:
-        for line in file:
-            schema, name, columns = line.rstrip("\n").split(" ", 2)
+        for line in file.read().replace("\n  ", " ").splitlines():
+            schema, name, columns = line.split(" ", 2)
             parts = [it.partition(":") for it in columns.split()]
             made = ", ".join('"%s" %s' % (it, COLUMN_TYPES.get(mark, "TEXT")) for it, _, mark in parts)
             db.execute(f'CREATE TABLE {schema}."{name}" ({made})')

@@ -5,22 +5,25 @@ from typing import TYPE_CHECKING, Deque, Dict, Optional, Tuple
 
 from ..sql import Unsayable
 from .catalogue import Asker
-from .engine import Gone, TooLong
+from .engine import Gone, Request, TooLong
 from .extended import Extended
 from .flow import Flow, Wait
 from .messages import (CANCEL_REQUEST, EMPTY_QUERY, GSS_REQUEST, READY, SSL_REQUEST, START_BYTES, VERSION_3, Body, Refused, cut, decoded,
-                       error, message, parameter_status)
+                       error, message, negotiated, parameter_status)
 from .outlet import Outlet
 from .output import Output
+from .quick import started
 from .scram import BadUsers, Wrong
+from .sentences import refusal
 from .settings import REPORTED, Settings
+from .transactions import IDLE
+from .words import is_loopback
 
 if TYPE_CHECKING:
     from .hub import Hub
 
 START_SECONDS, WRONG_SECONDS, LEAVE_SECONDS = 60, 0.3, 5
 INBOX_BYTES = 1 << 23
-LOOPBACK = ("127.", "::1", "::ffff:127.")
 FAULTS = (Refused, Unsayable, Gone, TooLong)
 IGNORED = b"dcf"
 
@@ -46,7 +49,7 @@ class Connection(asyncio.Protocol):
         self.use(transport)
         peer = transport.get_extra_info("peername")
         self.peer = f"{peer[0]}:{peer[1]}" if isinstance(peer, tuple) else "local"
-        self.is_local = not isinstance(peer, tuple) or peer[0].startswith(LOOPBACK)
+        self.is_local = not isinstance(peer, tuple) or is_loopback(peer[0])
         self.flow = Flow(self.serve(), self.abort)
         self.timer = self.hub.loop.call_later(START_SECONDS, self.abort)
         self.hub.joins(self)
@@ -108,7 +111,7 @@ class Connection(asyncio.Protocol):
                 break
             self.inbox.append((code, data[at + 8:at + length]))
             at += length
-            self.is_started = code == VERSION_3
+            self.is_started = is_version_3(code)
         return cut(data, at, self.inbox) if self.is_started else at
 
     def refuse_all(self, fault: Refused) -> None:
@@ -154,6 +157,11 @@ class Connection(asyncio.Protocol):
                 return
             while True:
                 kind, body = self.inbox.popleft() if self.inbox else await self.next()
+                if kind == 66 and self.inbox and not self.is_failed:  # B
+                    begun = started(self.session, body, self.inbox)
+                    if begun is not None:
+                        await self.finish(*begun)
+                        continue
                 if kind == 88:  # X
                     break
                 await self.take(kind, body)
@@ -195,12 +203,39 @@ class Connection(asyncio.Protocol):
             self.outlet.flush()
             await self.outlet.drained()
 
+    async def finish(self, request: Request, output: Output, count: int) -> None:
+        """Waits for the reply to a prepared query that was asked in one pass, and takes its messages up to Sync."""
+        session, outlet = self.session, self.outlet
+        for _ in range(count):
+            self.inbox.popleft()
+        try:
+            try:
+                reply = await request
+            except Gone as fault:
+                if fault.was_sent or session.cursors or session.transaction.status != IDLE:
+                    raise
+                reply = await session.ask(request.line[2:], output.take)
+            if reply.code:
+                raise refusal(reply.code, reply.name)
+            output.end(reply.header, reply.tag)
+        except FAULTS as fault:
+            session.refuse(fault)
+        session.sync()
+        outlet.add(READY[session.transaction.status])
+        if outlet.is_behind:
+            outlet.flush()
+            await outlet.drained()
+
     async def simple(self, body: bytes) -> None:
         """The statements of one text, one after the other. Each is done by itself: a fault ends the rest."""
         if body[-1:] != b"\0":
             raise Refused("08P01", "the message could not be read: its text does not end")
         session, outlet = self.session, self.outlet
-        found = self.hub.statements.of(decoded(body[:-1]), session.database)
+        text, known = decoded(body[:-1]), self.hub.statements
+        if self.hub.is_long(text):
+            found = known.of_parts(await self.hub.parts(text), session.database)
+        else:
+            found = known.of(text, session.database)
         if not found:
             outlet.add(EMPTY_QUERY)
         for it in found:
@@ -225,17 +260,20 @@ class Connection(asyncio.Protocol):
                 self.hub.cancel(pid, secret)
                 self.leave()
                 return False
-            elif code == VERSION_3:
+            elif is_version_3(code):
                 break
             else:
                 raise Refused("0A000", f"unsupported frontend protocol {code >> 16}.{code & 65535}: server supports 3.0",
                               "use a client of PostgreSQL 7.4 or later")
         given = self.words(body)
+        unknown = [it for it in given if it.startswith("_pq_.")]
+        if code != VERSION_3 or unknown:
+            self.outlet.add(negotiated(unknown))
         user, database = given.pop("user", ""), given.pop("database", "")
         await self.authenticate(user)
         self.timer.cancel()
         settings = Settings(user, {name: value for name, value in given.items() if name not in ("options", "replication")
-                                   and not name.startswith("_pq_.")})
+                                   and name not in unknown})
         session = Extended(self.hub, self.outlet, Asker(user, database or "fedq", self.pid, {}), settings)
         session.begin()
         await self.open(session, user)
@@ -280,9 +318,9 @@ class Connection(asyncio.Protocol):
             print(f"fedq-gateway: {fault}", file=sys.stderr, flush=True)
             raise Refused("28000", "the gateway's file of users cannot be read", "ask who runs the gateway: standard error says why")
         try:
-            self.transport.write(message(b"R", b"\0\0\0\x0aSCRAM-SHA-256\0\0"))
+            self.outlet.add(message(b"R", b"\0\0\0\x0aSCRAM-SHA-256\0\0"))
             first = exchange.first(self.first_of(await self.password()))
-            self.transport.write(message(b"R", b"\0\0\0\x0b" + first.encode()))
+            self.outlet.add(message(b"R", b"\0\0\0\x0b" + first.encode()))
             last = exchange.last(decoded(await self.password()))
         except (Wrong, Refused):
             wait = Wait()
@@ -291,7 +329,7 @@ class Connection(asyncio.Protocol):
             self.end = "gave a wrong password"
             raise Refused("28P01", f'password authentication failed for user "{user[:63]}"', "`fedq-gateway --add-user NAME` gives a "
                           "user a password")
-        self.transport.write(message(b"R", b"\0\0\0\x0c" + last.encode()))
+        self.outlet.add(message(b"R", b"\0\0\0\x0c" + last.encode()))
 
     async def password(self) -> bytes:
         kind, body = await self.next()
@@ -330,6 +368,11 @@ class Connection(asyncio.Protocol):
 
     def is_secret(self, secret: int) -> bool:
         return hmac.compare_digest(secret.to_bytes(4, "big"), self.secret.to_bytes(4, "big"))
+
+
+def is_version_3(code: int) -> bool:
+    """Whether a client speaks protocol 3 in one of its minor versions."""
+    return code >> 16 == VERSION_3 >> 16
 
 
 HANDLERS = {80: Extended.parse, 66: Extended.bind, 68: Extended.describe, 69: Extended.execute, 67: Extended.close}

@@ -1,5 +1,4 @@
 """The extended protocol: prepared statements, and portals that give their rows some at a time."""
-from functools import lru_cache
 from typing import Dict, List, Optional, Sequence, Tuple
 
 from .. import sql
@@ -7,20 +6,16 @@ from ..sql import Token
 from .messages import (BIND_COMPLETE, CLOSE_COMPLETE, EMPTY_QUERY, NO_DATA, PARSE_COMPLETE, SUSPENDED, Body, Refused, complete,
                        parameter_description, read_bind,
                        row_description)
-from .output import Held, Output, all_formats, names_in
-from .parameters import infer, is_known, literal, places, samples
+from .output import Held, Output, all_formats, described_by, names_in
+from .parameters import infer, is_known, literal, places, samples, without_null_patterns
+from .quick import Quick, learned
 from .rows import TEXT
 from .sentences import refusal
 from .session import Session
 from .statements import CATALOGUE, ENGINE, Form, Statement, Statements
-from .transactions import IDLE
+from .transactions import FAILED, IDLE
 
 MOST_PARAMETERS, MOST_KEPT = 1000, 5000
-
-
-@lru_cache(4096)
-def described_by(names: Tuple[str, ...], oids: Tuple[int, ...], formats: Tuple[int, ...]) -> bytes:
-    return row_description(names, oids, formats)
 
 
 class Prepared:
@@ -34,6 +29,7 @@ class Prepared:
             raise Refused("54000", f"a statement has at most {MOST_PARAMETERS:,} parameters here", "send the rows in parts")
         self.oids = list(oids[:self.count]) + [0] * (self.count - len(oids))
         self.places = places(found)
+        self.has_patterns = any(before == "like" for before, _ in self.places.values())
         for number, (_, oid) in self.places.items():
             if not is_known(self.oids[number]):
                 self.oids[number] = oid
@@ -65,8 +61,8 @@ class Prepared:
         self.renew()
         if self.model is None or not literals:
             return self.model
-        if self.model.kind != ENGINE:
-            return self.statements.made(sql.with_values(self.given, literals), self.database)
+        if self.model.kind != ENGINE or self.has_patterns and "NULL" in literals:
+            return self.statements.made(sql.with_values(without_null_patterns(self.given, literals), literals), self.database)
         kinds = tuple("text" if it[0] == "'" else it if it[0].isalpha() else "(number)" if it[0] == "-" else "number" for it in literals)
         form = self.forms.get(kinds)
         found = None
@@ -111,21 +107,23 @@ class Extended(Session):
     """A session with the extended protocol's state."""
     prepared: Dict[str, Prepared]
     portals: Dict[str, Portal]
+    quicks: Dict[bytes, Quick]  # by the bytes with which a Bind of them begins: the names of the portal and of the statement
 
     def begin(self) -> None:
-        self.prepared, self.portals = {}, {}
+        self.prepared, self.portals, self.quicks = {}, {}, {}
 
     async def parse(self, body: bytes) -> None:
         reader = Body(body)
         name, text = reader.text(), reader.text()
         oids = reader.numbers("I", reader.number("!H"))
-        parts = sql.statements(text)
+        parts = await self.hub.parts(text) if self.hub.is_long(text) else sql.statements(text)
         if len(parts) > 1:
             raise Refused("42601", "cannot insert multiple commands into a prepared statement", "prepare each statement by itself")
         if name and name in self.prepared:
             raise Refused("42P05", f'prepared statement "{name}" already exists', "close it first, or choose another name")
         if len(self.prepared) > MOST_KEPT:
             raise Refused("54000", f"a session keeps at most {MOST_KEPT:,} prepared statements", "DEALLOCATE ALL forgets them")
+        self.quicks.pop(b"\0" + name.encode() + b"\0", None)
         self.prepared[name] = Prepared(parts[0] if parts else (), oids, self.hub.statements, self.database)
         self.outlet.add(PARSE_COMPLETE)
 
@@ -143,8 +141,25 @@ class Extended(Session):
             self.close_portal(name)
         if len(self.portals) > MOST_KEPT:
             raise Refused("54000", f"a session keeps at most {MOST_KEPT:,} portals", "close those that are done")
-        self.portals[name] = Portal(prepared.bound(prepared.literals(values)), found.wanted)
+        statement = prepared.bound(prepared.literals(values))
+        self.portals[name] = Portal(statement, found.wanted)
         self.outlet.add(BIND_COMPLETE)
+        if not name and found.statement:  # (the unnamed statement is parsed anew each time)
+            quick = learned(prepared, statement, body, values)
+            if quick is not None:
+                self.quicks[b"\0" + found.statement.encode() + b"\0"] = quick
+
+    def is_quick(self, quick: Quick) -> bool:
+        """Whether what was learned of a prepared query holds still, and the session can ask it at once."""
+        hub = self.hub
+        return (quick.version == hub.objects.version and hub.is_ready and self.starts == self.engine.starts and not self.timeout
+                and self.transaction.status != FAILED)
+
+    def keep_run(self, statement: Statement, formats: Sequence[int]) -> None:
+        """Keeps the unnamed portal of a statement that runs, for the rest of the transaction."""
+        self.close_portal("")
+        portal = self.portals[""] = Portal(statement, formats)
+        portal.is_run = True
 
     def statement_of(self, name: str) -> Prepared:
         prepared = self.prepared.get(name)
@@ -259,6 +274,7 @@ class Extended(Session):
         kind, name = body[:1], Body(body[1:]).text()
         if kind == b"S":
             self.prepared.pop(name, None)
+            self.quicks.pop(b"\0" + name.encode() + b"\0", None)
         else:
             self.close_portal(name)
             if name in self.cursors:
@@ -281,6 +297,7 @@ class Extended(Session):
 
     def deallocate(self, found: Sequence[Token]) -> None:
         name = found[-1].value
+        self.quicks.clear()
         if name in ("all", "discard"):
             self.prepared.clear()
         elif self.prepared.pop(name, None) is None:

@@ -1,12 +1,13 @@
 """What all clients share: the program, its objects, the catalogue, the users, and who is connected."""
 import asyncio, ssl, sys, time
+from concurrent.futures import ThreadPoolExecutor
 from typing import Dict, List, Optional, Set
 
-from ..sql import Unsayable
+from ..sql import MOST_KEPT_CHARACTERS, Unsayable, statements
 from .catalogue import Catalogue
 from .connection import Connection
 from .engine import OWN_SESSION, Engine, Gone
-from .flow import Wait, in_loop
+from .flow import Wait, in_loop, of_thread
 from .messages import Refused
 from .objects import Objects
 from .outlet import Pool
@@ -25,6 +26,7 @@ class Hub:
         self.engine, self.objects, self.users, self.tls, self.is_verbose = engine, objects, users, tls, is_verbose
         self.loop = asyncio.get_running_loop()
         self.pool, self.statements, self.catalogue = Pool(spool_bytes), Statements(objects), Catalogue(engine.owner)
+        self.cutter = ThreadPoolExecutor(1, "tokens")
         self.connections: Dict[int, Connection] = {}
         self.made: List[bytes] = []
         self.waits: Set[Wait] = set()
@@ -55,6 +57,17 @@ class Hub:
         found = self.connections.get(pid)
         if found and found.is_secret(secret) and found.session:
             found.session.cancel()
+
+    # Long texts
+
+    @staticmethod
+    def is_long(text: str) -> bool:
+        """Whether cutting a text into tokens would hold up the other clients."""
+        return len(text) > MOST_KEPT_CHARACTERS
+
+    def parts(self, text: str) -> Wait:
+        """Comes with the statements of a long text, as tokens, which a thread of its own makes. Fails with Unsayable."""
+        return of_thread(self.cutter.submit(statements, text), self.loop)
 
     # The program
 

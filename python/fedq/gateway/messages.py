@@ -1,5 +1,6 @@
 """The messages of PostgreSQL's protocol 3.0: how those of the server are made, and how the client's bytes are cut into messages."""
 import struct
+from functools import lru_cache
 from typing import Deque, List, NamedTuple, Optional, Sequence, Tuple
 
 SSL_REQUEST, GSS_REQUEST, CANCEL_REQUEST, VERSION_3 = 80877103, 80877104, 80877102, 196608
@@ -39,8 +40,14 @@ def warning(code: str, text: str) -> bytes:
     return report(b"N", "WARNING", code, text)
 
 
+@lru_cache(1024)
 def complete(tag: str) -> bytes:
     return message(b"C", c_string(tag))
+
+
+def negotiated(options: Sequence[str]) -> bytes:
+    """NegotiateProtocolVersion: 3.0 is spoken, and these options are not known."""
+    return message(b"v", struct.pack("!II", VERSION_3, len(options)) + b"".join(map(c_string, options)))
 
 
 def parameter_status(name: str, value: str) -> bytes:

@@ -20,6 +20,12 @@ def description(header: bytes, oids: Tuple[int, ...], formats: Tuple[int, ...]) 
     return row_description(names_in(header), oids, formats)
 
 
+@lru_cache(4096)
+def described_by(names: Tuple[str, ...], oids: Tuple[int, ...], formats: Tuple[int, ...]) -> bytes:
+    """The RowDescription of columns with these names and types."""
+    return row_description(names, oids, formats)
+
+
 def names_in(header: bytes) -> List[str]:
     return [unescaped(it) for it in header.decode().split("\t")]
 

@@ -75,6 +75,18 @@ def places(found: Sequence[Token]) -> Dict[int, Tuple[str, int]]:
     return made
 
 
+def without_null_patterns(found: Sequence[Token], literals: Sequence[str]) -> List[Token]:
+    """Tokens in which `LIKE $n` is `IN ($n)` where the literal is NULL: both are unknown, and a pattern has to be a text."""
+    made: List[Token] = []
+    for before, it in zip([None, *found], found):
+        is_pattern = it.kind == "parameter" and before is not None and (before.kind, before.value) == ("word", "like")
+        if is_pattern and literals[int(it.value[1:]) - 1] == "NULL":
+            made[-1:] = [Token("word", "IN", "in"), Token("mark", "(", "("), it, Token("mark", ")", ")")]
+        else:
+            made.append(it)
+    return made
+
+
 def samples(oids: Sequence[int]) -> List[str]:
     """Literals that stand for values: of the type where it is known, else NULL."""
     return [SAMPLES[25] if oid in TEXTS else SAMPLES[20] if oid in WHOLE_NUMBERS or oid == NUMERIC else SAMPLES.get(oid, "NULL")

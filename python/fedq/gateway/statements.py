@@ -4,7 +4,7 @@ import re
 from typing import Dict, FrozenSet, List, Optional, Sequence, Tuple
 
 from .. import sql
-from ..sql import Token, Unsayable
+from ..sql import Token
 from .asked import is_of_catalogue
 from .objects import Objects
 
@@ -54,6 +54,10 @@ class Statements:
             if len(kept) > MOST_KEPT:
                 kept.clear()
 
+    def of_parts(self, parts: Sequence[Sequence[Token]], database: str) -> List[Statement]:
+        """The statements of a text that was cut already. Fails with Unsayable."""
+        return [self.made(it, database) for it in parts]
+
     def of(self, text: str, database: str) -> List[Statement]:
         """The statements of a text. Fails with Unsayable."""
         key = (text, database)
@@ -65,11 +69,10 @@ class Statements:
         model = self.by_shape.get(shape)
         if model is not None and model.form.types is not None:
             return [Statement(ENGINE, model.verb, None, text.encode(), model.form)]
-        made = [self.made(it, database) for it in sql.statements(text)]
+        made = self.of_parts(sql.statements(text), database)
         if len(made) == 1 and made[0].kind == ENGINE and made[0].verb == "select" and is_plain(shape[0], text, made[0]):
             self.by_shape[shape] = made[0]
-        if len(text) < 10_000:
-            self.by_text[key] = made
+        self.by_text[key] = made
         return made
 
     def made(self, found: Sequence[Token], database: str) -> Statement:
@@ -86,17 +89,16 @@ class Statements:
         return Statement(ENGINE, verb, found, sql.line(found).encode(), self.form(found))
 
     def form(self, found: Sequence[Token]) -> Form:
-        """What statements of this shape share."""
+        """What statements of this shape share. That of a long one is kept for no other."""
         self.renew()
+        if len(found) > sql.MOST_KEPT_TOKENS:
+            return Form()
         return self.forms.setdefault(sql.shape(found), Form())
 
 
 def bare(found: Sequence[Token], database: str) -> List[Token]:
-    """Tokens without `public.` and `database.public.` before names. Fails with Unsayable where a name ends in a point."""
-    try:
-        return list(sql.without_schema(list(found), ("public", ), (database, )))
-    except IndexError:
-        raise Unsayable("42601", "a name is missing behind a point")
+    """Tokens without `public.` and `database.public.` before names."""
+    return list(sql.without_schema(list(found), ("public", ), (database, )))
 
 
 def is_plain(shape: str, text: str, statement: Statement) -> bool:

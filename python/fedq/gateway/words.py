@@ -1,12 +1,12 @@
 """The words with which the gateway is started."""
-import argparse, os, shutil, stat
+import argparse, ipaddress, os, shutil, stat
 from typing import List, Optional, Sequence
 
 SOURCES = ("list", "csv", "jsonl", "sqlite")
-LOOPBACK = ("127.", "::1", "localhost")
 SPOOL_BYTES = 1 << 30
-USAGE = "fedq-gateway --port P [--host ADDRESS] [--socket DIR] [--users FILE] [--lines-port P]\n" \
-        "                    [--spool-bytes N] [--cert FILE --key FILE] [--verbose] [OPTION OF fedq run]..\n" \
+USAGE = "fedq-gateway --port P [--host ADDRESS] [--socket DIR] [--users FILE]\n" \
+        "                    [--lines-port P [--lines-without-passwords]] [--spool-bytes N]\n" \
+        "                    [--cert FILE --key FILE] [--verbose] [OPTION OF fedq run]..\n" \
         "       fedq-gateway --users FILE --add-user NAME"
 ABOUT = """Lets PostgreSQL's clients, up to 255 of them, ask one program: psql, psycopg2, SQLAlchemy, JDBC and others.
 Nothing of the gateway is proved; what the program answers is proved."""
@@ -48,6 +48,7 @@ def parser() -> argparse.ArgumentParser:
     made.add_argument("--add-user", metavar="NAME", help="writes a user into the file of --users, asks for the password, and ends")
     made.add_argument("--lines-port", type=port, metavar="P", help="the port of 127.0.0.1 for clients that speak fedq's lines, without "
                       "passwords")
+    made.add_argument("--lines-without-passwords", action="store_true", help="lets --lines-port be there beside --users")
     made.add_argument("--spool-bytes", type=count, metavar="N", default=SPOOL_BYTES, help="how much may wait in files for slow clients, "
                       "by default 1 GiB")
     made.add_argument("--cert", metavar="FILE", help="the certificate for TLS, in PEM")
@@ -70,9 +71,12 @@ def read(given: Sequence[str]) -> argparse.Namespace:
         raise BadWords("--port P is missing: fedq-gateway --port 5440 --list demo")
     if words.host is None and not words.socket or words.host is None and words.users:
         words.host = "127.0.0.1"
-    if words.host and not words.users and not words.host.startswith(LOOPBACK):
+    if words.host and not words.users and not is_loopback(words.host):
         raise BadWords(f"listening on {words.host} needs --users FILE: else who reaches the port is whoever he says. "
                        "`fedq-gateway --users FILE --add-user NAME` makes the file; --host 127.0.0.1 needs none")
+    if words.users and words.lines_port is not None and not words.lines_without_passwords:
+        raise BadWords("--lines-port asks for no password, and --users asks for one: whoever reaches the port of lines would need none. "
+                       "Leave one of them out, or add --lines-without-passwords where that is wanted")
     if bool(words.cert) != bool(words.key):
         raise BadWords("--cert and --key go together")
     if words.key and os.path.exists(words.key) and os.stat(words.key).st_mode & 0o077:
@@ -80,6 +84,15 @@ def read(given: Sequence[str]) -> argparse.Namespace:
     if words.socket:
         judge_folder(words.socket)
     return words
+
+
+def is_loopback(host: str) -> bool:
+    """Whether only this machine reaches an address. (A name other than localhost may be any address.)"""
+    try:
+        address = ipaddress.ip_address(host)
+    except ValueError:
+        return host == "localhost"
+    return (getattr(address, "ipv4_mapped", None) or address).is_loopback
 
 
 def judge_folder(path: str) -> None:

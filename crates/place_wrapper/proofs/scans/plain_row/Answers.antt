@@ -1,9 +1,9 @@
-use Rattle.std.proofs.Common.{◌<◌, ◌∙◌, Option, subst, map, arith, length, rules}
+use Rattle.std.proofs.Common.{◌<◌, ◌∙◌, ◌+◌, Option, ap, subst, map, arith, length, rules}
 use Rattle.med_value.specs.Datum.{datum}
 use Rattle.med_value.specs.declared.value.Row.{Row}
-use Rattle.fdw_api.specs.Scan.{spec_of}
+use Rattle.fdw_api.specs.Scan.{spec_of, restriction_form}
 use Rattle.place_wrapper.specs.Forms.{GivesAt}
-use Rattle.place_wrapper.proofs.Rows.{given_here, skipped_here}
+use Rattle.place_wrapper.proofs.Rows.{given_here, skipped_here, stands_plainly}
 use Rattle.place_wrapper.proofs.scans.plain_row.Goals as goal
 
 pub returns-in-Some-clause-next : goal.returns-in-Some-clause-next
@@ -33,3 +33,10 @@ loop-place-preserved g c =
       past = let a = c.loop-place.invariant.past in omega arith;
       same = c.loop-place.invariant.same ∙ skipped_here F t spec params at lt (subst (λ (o : Option Row). GivesAt F t spec params at o) c.in_default.is gives);
     }
+
+pub returns-in-Some-clause-on : goal.returns-in-Some-clause-on
+returns-in-Some-clause-on g c =
+    let F = g.T.PlacedTable.form in
+    let s = c.args.scan.now in
+    stands_plainly (spec_of s.spec) (map datum s.params.items) (F.rows c.args.table.now) (c.loop-place.place + 1) s.index
+    (ap (map restriction_form) c.requires.plain) c.requires.serves

@@ -19,18 +19,18 @@ returns-clause-stands c =
     let wanted = c.args.wanted in
     let cmp = output_cmp directions in
     let order : IsStrictWeakOrder (λ a b. is_lt (cmp a b)) = ranks_by (keys_total c.key_order_is_total.ensures (map direction_of directions)) (λ (o : Output). o.0) in
-    if_ok_then c.first_in_order.result _ _ (λ out h.
+    if_ok_then c.front_in_order.result _ _ (λ out h.
     let least : IsKLeast (λ a b. is_lt (staged_cmp directions a b)) wanted held out.items =
     subst (λ (l : List SortDirection). IsKLeast (λ a b. is_lt (staged_cmp l a b)) wanted held out.items) c.as_slice.ensures.value h in
     stands_least cmp order select.offset select.limit wanted (map output_of held) (map output_of out.items) c.requires.wanted
-    (least_map output_of cmp wanted held out.items least)) c.first_in_order.ensures
+    (least_map output_of cmp wanted held out.items least)) c.front_in_order.ensures
 
 pub returns-clause-sorted : goal.returns-clause-sorted
 returns-clause-sorted c =
     let held = c.args.held.items in
     let directions = c.args.select.now.directions.items in
     let wanted = c.args.wanted in
-    if_ok_then c.first_in_order.result _ _ (λ out h.
+    if_ok_then c.front_in_order.result _ _ (λ out h.
     let least : IsKLeast (λ a b. is_lt (staged_cmp directions a b)) wanted held out.items =
     subst (λ (l : List SortDirection). IsKLeast (λ a b. is_lt (staged_cmp l a b)) wanted held out.items) c.as_slice.ensures.value h in
-    (least_map output_of (output_cmp directions) wanted held out.items least).0) c.first_in_order.ensures
+    (least_map output_of (output_cmp directions) wanted held out.items least).0) c.front_in_order.ensures

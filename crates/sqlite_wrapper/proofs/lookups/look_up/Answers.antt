@@ -67,3 +67,6 @@ returns-in-Ok-rows_with-clause-sure_answered g c h had =
     c.with_rows.ensures.shows c.with_rows.ensures.lookup (λ yes. is) c.in-Ok.ensures.column v_is c.with_rows.ensures.none c.with_rows.ensures.filled
     (λ yes. subst (λ (d : Database). IfSome c.in-Ok-rows_with.rows (λ p. map (row_in l) p.items ≡ rows_with l c.in-Ok.lookup.column v (entries_of d l))) fixed
     (c.in-Ok-rows_with.ensures.sure_rows (sure_then first next h) there))
+
+pub returns-in_err-look-clause-reads : goal.returns-in_err-look-clause-reads
+returns-in_err-look-clause-reads g c = reads_none (state g.S.Store c.args.conn.now) (layout_at c.args.scan.table)

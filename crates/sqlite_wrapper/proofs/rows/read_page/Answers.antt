@@ -91,3 +91,8 @@ returns-in-Err-clause-reads g c =
     let w = at_some _ c.requires.there in
     let v = wants w.0 c.in-Some.wanted (sym (if_some _ _ w.0 w.1 c.page_wanted.ensures) ∙ c.in-Some.is) in
     some_if _ _ w.0 w.1 (subst (λ (t : ℕ). ReadsOnly (state g.S.Store c.args.conn.now) (state g.S.Store c.page_between.new.conn) (layout_at t)) v.0 c.page_between.ensures.reads)
+
+pub returns-in_err-look-clause-reads : goal.returns-in_err-look-clause-reads
+returns-in_err-look-clause-reads g c =
+    let w = at_some _ c.requires.there in
+    some_if _ _ w.0 w.1 (reads_none (state g.S.Store c.args.conn.now) (layout_at w.0.table))

@@ -92,3 +92,8 @@ returns-in-Err-clause-sure_refused g c =
     c.insert_text.result.now c.insert_text.ensures h.writable (λ tree is. rw key at (c.in-Err.ensures.sure_taken h.after h.inside tree _ _ is c.requires.second c.requires.third by.1))
     (λ bad. c.in-Err.ensures.sure_absent h.after h.inside bad by.1))
     c.fault_of_insert.ensures.refused
+
+pub returns-in-Err-clause-reported : goal.returns-in-Err-clause-reported
+returns-in-Err-clause-reported g c =
+    let key = to_z-of_z w64 c.args.key c.ranges.key in
+    (c.in-Err.error, c.fault_of_insert.ensures.is, rw (key, c.insert_text.ensures) at c.in-Err.ensures.reported)

@@ -103,3 +103,12 @@ returns-in-Ok-clause-sure_unread g c after inside bad =
 
 pub returns-in-Ok-clause-sure_inside : goal.returns-in-Ok-clause-sure_inside
 returns-in-Ok-clause-sure_inside g c after inside = (c.in-Ok.ensures.runs after.clean inside).1.mode
+
+pub returns-in-Err-clause-reported : goal.returns-in-Err-clause-reported
+returns-in-Err-clause-reported g c clean inside =
+    let second = datum c.args.second.now in
+    let third = datum c.args.third.now in
+    let one = ap bound_value c.cell_of-second.ensures ∙ bound_cell second in
+    let two = ap bound_value c.cell_of-third.ensures ∙ bound_cell third in
+    let key = to_z-of_z w64 c.args.key c.ranges.key in
+    rw (key, one, two) at (c.in-Err.ensures.runs clean inside)

@@ -93,7 +93,7 @@ returns-clause-ok g c =
     let place = sym c.place_of.ensures ∙ c.in-Some.is in
     let lt = place_within s.bound.items c.args.remote.now c.in-Some.number s.counted place in
     sqlite_binds g.S.SourceStore.honest db after s.bound.items s.scans s.staged s.next s.pulled s.faults _ _ _ c.open_table.ensures.same c.in-Some.number lt (within_count c.in-Some.number s.bound.items s.counted lt) c.requires place
-    c.in-Ok.ensures.types c.in-Ok.ensures.ok c.open_table.ensures.once
+    c.in-Ok.ensures.types c.in-Ok.ensures.ok c.in-Ok.ensures.once
 
 pub returns-in_default-clause-clean_err : goal.returns-in_default-clause-clean_err
 returns-in_default-clause-clean_err g c steady known =
@@ -123,4 +123,4 @@ returns-clause-clean_ok g c steady known =
     let sure = clean_sure g.S.Store s.conn c.open_table.new.conn (layout_at c.in-Some.number) steady c.schema-schema.ensures.live reads (known c.in-Some.number) in
     sqlite_binds true db after s.bound.items s.scans s.staged s.next s.pulled s.faults _ _ _ (λ yes. reads.same sure.after sure.known) c.in-Some.number lt
     (within_count c.in-Some.number s.bound.items s.counted lt) (record { free = c.requires.free; no_objection = c.requires.no_objection }) place
-    c.in-Ok.ensures.types (λ yes. c.in-Ok.ensures.sure_ok sure) (λ yes. c.open_table.ensures.sure_once sure)
+    c.in-Ok.ensures.types (λ yes. c.in-Ok.ensures.sure_ok sure) (λ yes. c.in-Ok.ensures.sure_once sure)
