@@ -52,7 +52,7 @@ CODES = [
     ("UPDATE parts SET id = id, id = id", "42601"),
     ("SELECT name FROM parts WHERE name LIKE 'a\\'", "22025"),
     ("COPY parts FROM STDIN", "0A000"),
-    ("COPY parts TO '/tmp/x'", "0A000"),
+    ("COPY parts TO 'parts.csv'", "0A000"),
     ("SHOW no_such_setting", "42704"),
     ("SELECT 'open", "42601"),
     ('SELECT "open', "42601"),
@@ -347,7 +347,7 @@ def other_copies(it: Client, rows: bytes, csv: bytes) -> Iterator[Case]:
 
 
 def cursors(gateway: Gateway) -> Iterator[Case]:
-    """Cursors, and two clients of which one holds a cursor."""
+    """Cursors, and two clients, one with a cursor."""
     with gateway.connect() as it, gateway.connect("ann") as other:
         yield "DECLARE", it.query("DECLARE c CURSOR FOR SELECT no, part FROM orders ORDER BY no").tags, ["DECLARE CURSOR"]
         found = it.query("FETCH 2 FROM c")

@@ -31,7 +31,7 @@ def connect(csv: Sources = None, jsonl: Sources = None, sqlite: Sources = None, 
     - `user`: the session's user, by default the owner; `owner`: who may CREATE and DROP, by default admin.
     - `program`: the program. Else it is what FEDQ_PROGRAM names, the one of this package, of its clone or of `make install`,
       or `fedq` on the PATH.
-    - `timeout`: so many seconds are waited for the port's first answer; without end by default.
+    - `timeout`: the seconds to wait for the port's first answer; no limit by default.
     - `paramstyle`: qmark (`?`, and `:name` for a mapping) or pyformat (`%s`, and `%(name)s` for a mapping).
 
     Fails with InterfaceError for wrong words and a missing program, and with DatabaseError where the engine refuses."""
@@ -61,22 +61,22 @@ def words_of(sources: Dict[str, Dict[str, Path]]) -> List[str]:
 
 
 def looked_at(sources: Dict[str, Dict[str, Path]], words: Sequence[str], write: bool) -> List[str]:
-    """The statements that `fedq-setup` writes for sources. What it tells becomes warnings. Fails with InterfaceError where a folder is
+    """The statements that `fedq-setup` writes for sources. Its messages become warnings. Fails with InterfaceError where a folder is
     not there, and with ProgrammingError where it refuses the words."""
     for kind in ("csv", "jsonl"):
         for name, path in sources[kind].items():
             if not os.path.isdir(path):
                 raise InterfaceError(f"the folder {os.fspath(path)} of {kind}={{'{name}': ..}} is not there")
-    statements, told, status = set_up([*words, *(["--write"] if write else [])])
+    statements, messages, status = set_up([*words, *(["--write"] if write else [])])
     if status > 1:
-        raise ProgrammingError(f"{SUMMARY}{' '.join(told).replace(SUMMARY, '')}")
-    for it in told:
+        raise ProgrammingError(f"{SUMMARY}{' '.join(messages).replace(SUMMARY, '')}")
+    for it in messages:
         warnings.warn(it, Warning, stacklevel=4)
     return statements
 
 
 def set_up(words: Sequence[str]) -> Tuple[List[str], List[str], int]:
-    """What `fedq-setup` does over these words: the statements that it writes, what it tells, a line each, and its status."""
+    """What `fedq-setup` does over these words: the statements that it writes, its messages, a line each, and its status."""
     package = os.path.dirname(os.path.dirname(os.path.dirname(os.path.realpath(__file__))))
     command, room = setup_command(package), dict(os.environ)
     room["PYTHONPATH"] = os.pathsep.join([package, *filter(None, [room.get("PYTHONPATH")])])
@@ -87,11 +87,11 @@ def set_up(words: Sequence[str]) -> Tuple[List[str], List[str], int]:
             done = subprocess.run(words, stdin=subprocess.DEVNULL, stdout=subprocess.PIPE, stderr=subprocess.PIPE, env=room)
         except OSError as fault:
             raise InterfaceError(f"cannot start {command[0]}: {fault.strerror}") from None
-        told = [it for it in done.stderr.decode(errors="replace").splitlines() if it]
+        messages = [it for it in done.stderr.decode(errors="replace").splitlines() if it]
         if not os.path.exists(out):
-            return [], told, max(2, done.returncode)
+            return [], messages, max(2, done.returncode)
         with open(out, encoding="utf-8") as file:
-            return file.read().splitlines(), [it for it in told if not it.startswith(SUMMARY)], done.returncode
+            return file.read().splitlines(), [it for it in messages if not it.startswith(SUMMARY)], done.returncode
 
 
 def setup_command(package: str) -> List[str]:

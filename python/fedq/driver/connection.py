@@ -85,7 +85,7 @@ class Connection:
                 self.transport.tell([request])
             except BaseException as fault:
                 self.failed(fault)
-                if not isinstance(fault, errors.Error):  # (what failed is told by the next request)
+                if not isinstance(fault, errors.Error):  # (the next request reports what failed)
                     raise
 
     def types_of(self, query: Statement, literals: List[str], count: int) -> List[str]:

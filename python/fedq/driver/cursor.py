@@ -132,7 +132,7 @@ class Cursor:
 
     def executemany(self, sql: str, many: Iterable[Any]) -> "Cursor":
         """Executes a statement for each of these parameters, and gives itself. An INSERT of one row of VALUES is one statement with all
-        rows, so that they are written whole or not at all; more than 1,048,576 bytes of them are several statements, each of which is
+        rows, so that they are written whole or not at all; more than 1,048,576 bytes of them are several statements, and each is
         whole. `rowcount` is the sum, also where one is refused."""
         given = list(many)
         with self.connection.lock:

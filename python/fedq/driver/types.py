@@ -11,17 +11,17 @@ Date, Time, Timestamp = datetime.date, datetime.time, datetime.datetime
 
 
 def DateFromTicks(ticks: float) -> datetime.date:
-    """The local date of so many seconds since 1970."""
+    """Returns the local date at a number of seconds since 1970."""
     return datetime.date.fromtimestamp(ticks)
 
 
 def TimeFromTicks(ticks: float) -> datetime.time:
-    """The local time of day of so many seconds since 1970."""
+    """Returns the local time of day at a number of seconds since 1970."""
     return datetime.datetime.fromtimestamp(ticks).time()
 
 
 def TimestampFromTicks(ticks: float) -> datetime.datetime:
-    """The local date and time of so many seconds since 1970."""
+    """Returns the local date and time at a number of seconds since 1970."""
     return datetime.datetime.fromtimestamp(ticks)
 
 

@@ -31,7 +31,7 @@ class Wait:
 
 class Flow:
     """Runs one coroutine that awaits Waits alone. A fault that the coroutine does not take ends it, is written to standard error, and is
-    told to `failed`."""
+    reported to `failed`."""
 
     def __init__(self, coroutine: Coroutine, failed: Callable[[], None]) -> None:
         self.coroutine: Optional[Coroutine] = coroutine

@@ -105,7 +105,7 @@ def slices(piece: bytes) -> Iterator[bytes]:
 
 
 def data_rows(piece: bytes, prefix: bytes, width: int, formats: Sequence[int] = (), oids: Sequence[int] = ()) -> Tuple[bytes, int]:
-    """The DataRow messages of some whole R lines, each of which begins with `prefix`, and how many rows there are. `formats` has 1 for
+    """The DataRow messages of some whole R lines that begin with `prefix`, and how many rows there are. `formats` has 1 for
     each column that is asked in binary."""
     if len(piece) < 4096 and b"\\" not in piece and not formats and piece.count(b"\n") == 1:
         return one_row(piece[len(prefix):-1].split(b"\t")), 1

@@ -54,6 +54,6 @@ SENTENCES: Dict[str, Tuple[str, str]] = {
 
 
 def refusal(code: str, name: str) -> Refused:
-    """What a client is told of a code and its name."""
+    """Returns what a client reads for a code and its name."""
     text, hint = SENTENCES.get(code, (name.replace("_", " "), "docs/ERRORS.md says more"))
     return Refused(code, text, hint)

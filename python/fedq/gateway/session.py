@@ -73,8 +73,8 @@ class Session:
                     timer.cancel()
 
     def cancel(self) -> None:
-        """Takes back what waits. What runs goes on in the program: the client of a query is told at once and its rows are dropped; a
-        write is not told of before it is done."""
+        """Takes back what waits. What runs goes on in the program: the client of a query is answered at once and its rows are dropped; a
+        write is answered once it is done."""
         if not self.sid or self.engine.take_back(self.sid):
             return
         running = self.engine.running(self.sid)
@@ -227,12 +227,12 @@ class Session:
 
     def refuse(self, fault: Exception) -> None:
         """Tells the client what was refused; its transaction has failed then."""
-        self.outlet.add(error(told(fault)))
+        self.outlet.add(error(refused_by(fault)))
         self.transaction.fail()
 
 
-def told(fault: Exception) -> Refused:
-    """What a client is told of a fault."""
+def refused_by(fault: Exception) -> Refused:
+    """Returns the refusal that a client reads for a fault."""
     if isinstance(fault, Refused):
         return fault
     if isinstance(fault, Unsayable):

@@ -129,14 +129,14 @@ def bind_sqlite(path: str, report: Report) -> List[str]:
         tables = "type IN ('table', 'view') AND name NOT LIKE 'sqlite_%'"
         found = base.execute(f"SELECT name, type FROM sqlite_master WHERE {tables} ORDER BY name").fetchall()
         for table, kind in ((text_of(name), text_of(kind)) for name, kind in found):
-            told = len(report.faults)
+            count = len(report.faults)
             try:
                 if table not in SHAPES or kind != "table":
                     raise Refused(f" {kind} {table} is of another shape than the two that fedq reads: {recipe(path, table)}")
                 check_shape(base, path, table, report)
             except Refused as refused:
                 report.fault(refused.why)
-            if len(report.faults) == told:
+            if len(report.faults) == count:
                 bound.append(table)
     finally:
         base.close()
