@@ -11,14 +11,15 @@ _fedq() {
         return
     fi
     case $before in
-        = | --init | --out | --file | -f | --output | -o | --socket | --users | --cert | --key) mapfile -t COMPREPLY < <(compgen -f -- "$current"); return ;;
+        = | --init | --out | --copy | --file | -f | --output | --save | --socket | --users | --cert | --key) mapfile -t COMPREPLY < <(compgen -f -- "$current"); return ;;
         --check) mapfile -t COMPREPLY < <(compgen -W 'csv jsonl sqlite' -- "$current"); return ;;
-        --format) mapfile -t COMPREPLY < <(compgen -W 'aligned csv json' -- "$current"); return ;;
+        --format) mapfile -t COMPREPLY < <(compgen -W 'aligned csv json jsonl tsv markdown' -- "$current"); return ;;
+        -o) mapfile -t COMPREPLY < <(compgen -W 'aligned csv json jsonl tsv markdown' -- "$current"; compgen -f -- "$current"); return ;;
         --csv | --jsonl | --sqlite | --list | --owner | --port | --count | --columns | --null | --members | --host | --add-user | --lines-port | --spool-bytes) return ;;
     esac
     case ${COMP_WORDS[0]##*/} in
-        fedq-setup) words='--csv --jsonl --sqlite --out --write --write-acl --check --columns --header --null --members --help' ;;
-        fedq-shell) words='--csv --jsonl --sqlite --list --init --owner --command --file --stop --user --connect --format --expanded --null --output --version --help' ;;
+        fedq-setup) words='--csv --jsonl --sqlite --out --copy --write --write-acl --check --columns --header --null --members --help' ;;
+        fedq-shell) words='--csv --jsonl --sqlite --list --init --owner --command --file --stop --user --connect --save --no-setup --format --expanded --null --output --version --help' ;;
         fedq-gateway) words='--port --host --socket --users --add-user --lines-port --lines-without-passwords --spool-bytes --cert --key --verbose --csv --jsonl --sqlite --list --init --owner --help' ;;
         *)
             case ${COMP_WORDS[1]} in

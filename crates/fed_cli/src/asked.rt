@@ -18,13 +18,14 @@ use itoa::Buffer;
 use med_session::Sources;
 use std::io::{Read, Write};
 use std::net::Net;
+use std::time::Clock;
 
 /// How the program exits.
 #[derive(Drop)]
 pub struct Exit<W> {
     /// The exit status.
     pub status: u8,
-    /// Whether all that was to be told could be written.
+    /// Whether each message of the program could be written whole.
     pub is_told: bool,
     /// The bytes of the init file, if they were read.
     pub script: Option<Vec<u8>>,
@@ -73,11 +74,11 @@ fn not_begun<'a, W: Drop, E: Sink>(refused: NotBegun<'a>, errors: &mut E) -> Exi
     }
 }
 
-/// Serves so many connections to a port for what is asked: it begins as `begin` says, and then the connections are served as
-/// `listen_and_serve` does. What it came to is told by one line on the second output, if not all were served.
+/// Serves this number of connections to a port for what is asked: it begins as `begin` says, and then the connections are served as
+/// `listen_and_serve` does. If not all were served, one line on the second output says why.
 ///
 /// Where it does not begin, nothing is listened to and nothing is written to the first output.
-pub fn serve_asked<V: AllocGlobal + Surroundings + Net, O: Write, E: Write>(
+pub fn serve_asked<V: AllocGlobal + Surroundings + Net + Clock, O: Write, E: Write>(
     rt: &V,
     asked: AskedRun<'_>,
     port: u16,
@@ -107,7 +108,7 @@ pub fn serve_asked<V: AllocGlobal + Surroundings + Net, O: Write, E: Write>(
 
 /// Does what the program's words ask: it answers an input on an output, or connections to a port, or prints help on the output, and tells
 /// on a second output how it failed.
-pub fn run_words<V: AllocGlobal + Surroundings + Net, I: Read, O: Write, E: Write>(
+pub fn run_words<V: AllocGlobal + Surroundings + Net + Clock, I: Read, O: Write, E: Write>(
     rt: &V,
     words: &[String],
     input: &mut I,
@@ -161,7 +162,7 @@ pub enum ArgsFault {
 
 /// Runs the program with these words, and gives its exit status: 0 where the input ended or the help that was asked was written, 2 where
 /// the words are refused, and 1 else, with one line on standard error, but for help that could not be written.
-pub fn run<V: AllocGlobal + Surroundings + Net, I: Read, O: Write, E: Write>(
+pub fn run<V: AllocGlobal + Surroundings + Net + Clock, I: Read, O: Write, E: Write>(
     rt: &V,
     words: Result<Vec<String>, ArgsFault>,
     input: &mut I,

@@ -19,15 +19,12 @@ use std::error::Error;
 use std::fmt;
 use std::io::{ErrorKind, Read};
 use std::net::{IpAddr, Ipv4Addr, Net, OpenListener, OpenStream, Shutdown, SocketAddr};
-use std::time::Duration;
+use std::time::{Clock, Duration, Instant};
 
-/// The most reads of a connection that is closed.
-const LAST_READS: u32 = 4_096;
+/// For how long a closed connection is drained before its last read, in milliseconds.
+const LAST_TIME: u64 = 990;
 
-/// The most of these reads that waited for bytes.
-const LAST_WAITS: u32 = 100;
-
-/// How long each of them waits at most, in milliseconds: all together wait for a second.
+/// How long each read of a closed connection waits at most, in milliseconds: so all of them take a second at most.
 const LAST_WAIT: u64 = 10;
 
 /// The most bytes of one of these reads.
@@ -64,24 +61,29 @@ impl Error for ListenFault {}
 /// The connections to a port. Each is guarded: one that begins with a request line of HTTP gives no byte. What is taken, and what a
 /// connection gives, is the peers' doing: nothing else is promised of it.
 #[derive(Drop)]
-pub struct Listening<N: Net> {
+pub struct Listening<'a, N: Net> {
     alloc: Global,
+    clock: &'a N,
     listener: N::Listener,
 }
 
-impl<N: Net> Listening<N> {
-    /// Listens on this port of 127.0.0.1. Refused where the port is not to be had.
-    pub fn bind(alloc: Global, net: &N, port: u16) -> Result<Self, ListenFault>
+impl<'a, N: Net> Listening<'a, N> {
+    /// Listens on this port of 127.0.0.1. Refused where the port cannot be bound.
+    pub fn bind(alloc: Global, net: &'a N, port: u16) -> Result<Self, ListenFault>
         ensures { IfErr result (λ fault. fault ≡ ListenFault.CannotListen port) }
     {
         match net.bind(local_address(port)) {
-            Ok(listener) => Ok(Listening { alloc, listener }),
+            Ok(listener) => Ok(Listening {
+                alloc,
+                clock: net,
+                listener,
+            }),
             Err(_) => Err(ListenFault::CannotListen(port)),
         }
     }
 }
 
-impl<N: Net> Connections for Listening<N> {
+impl<N: Net + Clock> Connections for Listening<'_, N> {
     type Reader = Guarded<N::Stream>;
 
     type Writer = N::Stream;
@@ -102,35 +104,44 @@ impl<N: Net> Connections for Listening<N> {
         }
     }
 
-    /// The peer gets the end of what was written. What it sends still is read for a second at most, and dropped: else the system would
-    /// reset the connection, and the peer could lose what was written.
+    /// The peer gets the end of what was written. What it still sends is read for a second at most, in pieces of any size, and dropped:
+    /// else the system would reset the connection, and the peer could lose what was written.
     fn close(&mut self, reader: Guarded<N::Stream>, writer: N::Stream) {
         let _ = writer.shutdown(Shutdown::Write);
         let mut left = reader.into_inner();
         let wait = Duration::from_millis(LAST_WAIT);
         if left.set_read_timeout(Some(wait)).is_ok() {
-            drain(&mut left);
+            drain(&mut left, self.clock);
         }
     }
 }
 
-// Reads what a peer sends still, and drops it, until the peer ends or fails, or enough was read or waited for.
-fn drain<R: Read>(reader: &mut R) {
+// Reads what a peer still sends, and drops it, until the peer ends, a read fails or the time is over.
+fn drain<R: Read, C: Clock>(reader: &mut R, clock: &C) {
+    let Ok(start) = Instant::now(clock) else {
+        return;
+    };
     let mut piece = [0u8; LAST_PIECE];
-    let mut waits = LAST_WAITS;
-    for _ in 0..LAST_READS {
-        if waits == 0 {
-            return;
-        }
+    for _ in 0..u32::MAX {
         match reader.read(&mut piece) {
             Ok(0) => return,
-            Ok(count) if count == LAST_PIECE => {}
-            Ok(_) => waits -= 1,
+            Ok(_) => {}
             Err(error) => match error.kind() {
-                ErrorKind::WouldBlock | ErrorKind::TimedOut | ErrorKind::Interrupted => waits -= 1,
+                ErrorKind::WouldBlock | ErrorKind::TimedOut | ErrorKind::Interrupted => {}
                 _ => return,
             },
         }
+        if is_over(&start, clock) {
+            return;
+        }
+    }
+}
+
+// Whether so much time has passed since a start that no read is made any more, or the clock fails.
+fn is_over<C: Clock>(start: &Instant, clock: &C) -> bool {
+    match start.elapsed(clock) {
+        Ok(time) => time >= Duration::from_millis(LAST_TIME),
+        Err(_) => true,
     }
 }
 
@@ -142,12 +153,12 @@ fn local_address(port: u16) -> SocketAddr
     SocketAddr::new(IpAddr::V4(Ipv4Addr::new(127, 0, 0, 1)), port)
 }
 
-/// Listens on a port of 127.0.0.1, tells so by the line `fedq: listening on 127.0.0.1:PORT`, and serves so many connections by the
-/// engine, one after the other, as `serve_connections` does.
+/// Listens on a port of 127.0.0.1, reports it by the line `fedq: listening on 127.0.0.1:PORT`, and serves this number of connections by
+/// the engine, one after the other, as `serve_connections` does.
 ///
-/// Of what peers send and get nothing can be said: they are others. Nothing is served where the port is not to be had or the line could
-/// not be written: then a front of it was, and where the output tells its calls one of them failed, or 4,294,967,295 were interrupted.
-pub fn listen_and_serve<B: Wrapper2, V: AllocGlobal + Net, O: Sink, E: Sink>(
+/// Of what peers send and get nothing can be said: they are others. Nothing is served where the port cannot be bound or the line could
+/// not be written: then a front of it was, and where the output reports its calls one of them failed, or 4,294,967,295 were interrupted.
+pub fn listen_and_serve<B: Wrapper2, V: AllocGlobal + Net + Clock, O: Sink, E: Sink>(
     rt: &V,
     engine: Engine<B>,
     port: u16,

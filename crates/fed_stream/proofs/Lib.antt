@@ -6,3 +6,4 @@ pub mod Streams
 pub mod Calls
 pub mod OneLine
 pub mod Guards
+pub mod Prompts

@@ -6,4 +6,5 @@ pub mod Parts
 pub mod Streams
 pub mod Served
 pub mod Calls
+pub mod Prompt
 pub mod Guards

@@ -5,6 +5,7 @@ ghost use Rattle.session_wire.specs.Run.{Fed};
 ghost use Rattle.session_wire.specs.Servers.{handler_of, is_closed, held_back, unread_of};
 ghost use Rattle.fed_stream.specs.Known.{Known};
 ghost use Rattle.fed_stream.specs.Calls.{ReadsStream, ReadsWithin, WritesStream};
+ghost use Rattle.fed_stream.specs.Prompt.{Prompt, moment, seen};
 ghost use Rattle.fed_stream.specs.Served.{Serves, Fails};
 ghost use Rattle.fed_stream.specs.Streams.{stream};
 
@@ -62,6 +63,10 @@ pub fn serve_stream<H: Handler, R: Source, W: Sink>(
     ensures reads { is_closed server.old ≡ false
         → Known (R.inlet reader.old) (R.inlet reader.new) (λ old new. ReadsStream old new result) }
     ensures writes { Known (W.outlet writer.old) (W.outlet writer.new) (λ old new. WritesStream old new result) }
+    ensures prompt { is_closed server.old ≡ false
+        → Prompt H.step H.ended (seen R.remaining R.inlet W.contents W.outlet)
+        (moment (handler_of server.old) (held_back server.old) reader.old writer.old)
+        (moment (handler_of server.new) (held_back server.new) reader.new writer.new) result }
     ensures closed_before { is_closed server.old ≡ true → (result ≡ Ok Ended.Closed)
         × (handler_of server.new ≡ handler_of server.old) × (is_closed server.new ≡ true)
         × (R.remaining reader.new ≡ R.remaining reader.old)
@@ -81,12 +86,15 @@ pub fn serve_stream<H: Handler, R: Source, W: Sink>(
 /// After `Eof` the sink has got the text of the run of all bytes that the source had; after `Closed` of
 /// those up to the closing line. After `Read` and `TooLong` what was read is a run, and its text was
 /// written; after `NoRoom` too, but for the last piece. After `Write` what was read before the line whose reply could not be written was
-/// served, and the run ends with that line: a front of its reply was written, and what stood behind it in the last piece is dropped.
+/// served, and the run ends with that line: a front of its reply was written, and what came after it in the last piece is dropped.
 ///
 /// Where the source tells what comes, `Eof` is answered only where nothing comes any more, `Read` only
 /// after the one read that failed, and `TooLong` only after all the reads that are allowed. Where the sink tells its calls,
 /// `Write` is answered only where one of them failed or 4,294,967,295 were interrupted, and after any other
 /// end all that was written is flushed.
+///
+/// From one state of the source and the sink to the next one read gave a piece, the text of its lines was written and what was written was
+/// flushed (`prompt`). Source and sink have no common order of calls, so that no clause says which of a read and a write came first.
 pub fn serve_stream_within<H: Handler, R: Source, W: Sink>(
     alloc: Global,
     server: &mut Server<H>,
@@ -103,6 +111,10 @@ pub fn serve_stream_within<H: Handler, R: Source, W: Sink>(
     ensures reads { is_closed server.old ≡ false
         → Known (R.inlet reader.old) (R.inlet reader.new) (λ old new. ReadsWithin reads old new result) }
     ensures writes { Known (W.outlet writer.old) (W.outlet writer.new) (λ old new. WritesStream old new result) }
+    ensures prompt { is_closed server.old ≡ false
+        → Prompt H.step H.ended (seen R.remaining R.inlet W.contents W.outlet)
+        (moment (handler_of server.old) (held_back server.old) reader.old writer.old)
+        (moment (handler_of server.new) (held_back server.new) reader.new writer.new) result }
     ensures closed_before { is_closed server.old ≡ true → (result ≡ Ok Ended.Closed)
         × (handler_of server.new ≡ handler_of server.old) × (is_closed server.new ≡ true)
         × (R.remaining reader.new ≡ R.remaining reader.old)

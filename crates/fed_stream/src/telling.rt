@@ -4,7 +4,7 @@ ghost use Rattle.fed_stream.specs.Parts.{joined, line_of};
 
 use crate::{GivenUp, Sink, write_front};
 
-/// Writes these parts one behind the other, or a front of that text and then a call was given up. An interrupted write is tried again.
+/// Writes these parts one after the other, or a front of that text and then a call was given up. An interrupted write is tried again.
 ///
 /// `Failed` where a write failed, and `TooMany` where 4,294,967,295 writes of the same bytes were interrupted.
 pub fn write_parts<S: Sink>(sink: &mut S, parts: &[&str]) -> Result<(), GivenUp>
@@ -19,8 +19,7 @@ pub fn write_parts<S: Sink>(sink: &mut S, parts: &[&str]) -> Result<(), GivenUp>
     }
 }
 
-/// Writes the line of these parts that the program tells: its name stands before them, and a line feed behind. It ends as `write_parts`
-/// does.
+/// Writes the program's line of these parts: its name comes before them, and a line feed after them. It ends as `write_parts` does.
 pub fn write_line<S: Sink>(sink: &mut S, parts: &[&str]) -> Result<(), GivenUp>
     ensures { FrontWritten (S.contents sink.old) (S.contents sink.new) (S.outlet sink.old) (S.outlet sink.new) result (line_of parts.now) }
 {

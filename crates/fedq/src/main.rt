@@ -16,6 +16,7 @@ use std::io::{ErrorKind, Read, Write};
 use std::net::Net;
 use std::process::ExitCode;
 use std::rt::Env;
+use std::time::Clock;
 
 // The words of the environment.
 fn own_words<V: AllocGlobal + Env>(rt: &V) -> Result<Vec<String>, ArgsFault> {
@@ -28,7 +29,12 @@ fn own_words<V: AllocGlobal + Env>(rt: &V) -> Result<Vec<String>, ArgsFault> {
 
 // Runs the program over a runtime, whose allocations, databases, disks, inputs and network it takes: what it finds outside itself is what
 // these tell.
-fn run_on<V: AllocGlobal + Databases + Disks + ReadsInputs + Net, I: Read, O: Write, E: Write>(
+fn run_on<
+    V: AllocGlobal + Databases + Disks + ReadsInputs + Net + Clock,
+    I: Read,
+    O: Write,
+    E: Write,
+>(
     rt: &V,
     words: Result<Vec<String>, ArgsFault>,
     input: &mut I,

@@ -11,6 +11,7 @@ ghost use Rattle.jsonl_wrapper.specs.Drafts.{places_after, lines_before, lines_a
 
 use crate::fields::Field;
 use crate::lines::Span;
+use crate::reading::LineBuffer;
 use wrapper_parts::Splice;
 
 /// A table with what is to come into the place of its bytes, its places and its integers. The places behind those are to be moved, from
@@ -29,6 +30,7 @@ pub struct JsonDraft {
     pub rises: bool,
     /// Whether the first column is known to rise after it.
     pub stays: bool,
+    pub buffer: LineBuffer,
     pub ghost named: { is_blob_name (string_bytes remote) ≡ true },
     pub ghost apart: { members_differ (map reader_of fields.items) ≡ true },
     pub ghost image: { is_image ≡ true → IsImage (before_of content) (before_of lines) (lines_before content lines) },

@@ -111,6 +111,7 @@ pub(crate) fn draft_of(
         is_image,
         wholes,
         rises,
+        buffer,
     } = table;
     match splices_of(
         Parts {
@@ -138,6 +139,7 @@ pub(crate) fn draft_of(
                 is_image,
                 rises,
                 stays,
+                buffer,
             })
         }
         Err(
@@ -154,6 +156,7 @@ pub(crate) fn draft_of(
             is_image,
             wholes,
             rises,
+            buffer,
         }),
     }
 }
@@ -185,6 +188,7 @@ pub(crate) fn kept(draft: JsonDraft) -> JsonTable
         is_image: _,
         rises: _,
         stays,
+        buffer,
     } = draft;
     JsonTable {
         remote,
@@ -194,6 +198,7 @@ pub(crate) fn kept(draft: JsonDraft) -> JsonTable
         is_image: true,
         wholes: wholes.kept(),
         rises: stays,
+        buffer,
     }
 }
 
@@ -212,6 +217,7 @@ pub(crate) fn given_up(draft: JsonDraft) -> JsonTable
         is_image,
         rises,
         stays: _,
+        buffer,
     } = draft;
     JsonTable {
         remote,
@@ -221,5 +227,6 @@ pub(crate) fn given_up(draft: JsonDraft) -> JsonTable
         is_image,
         wholes: wholes.given_up(),
         rises,
+        buffer,
     }
 }

@@ -11,6 +11,7 @@ use crate::lines::Image;
 use crate::ranges::push_range;
 use crate::table::JsonTable;
 use crate::wholes::push_line;
+use json::Scratch;
 use med_value::NoMemory;
 use std::alloc::Global;
 
@@ -42,6 +43,7 @@ impl LinesWritten {
     pub(crate) fn push(
         &mut self,
         alloc: Global,
+        scratch: &mut Scratch,
         line: &[u8],
         fields: &[Field],
     ) -> Result<(), NoMemory>
@@ -49,7 +51,7 @@ impl LinesWritten {
             → IsWritten (map reader_of fields.now) self.new (lines ++ line.now ∷ [])) }
     {
         self.image.push(line)?;
-        push_line(alloc, &mut self.wholes, line, fields)
+        push_line(alloc, scratch, &mut self.wholes, line, fields)
     }
 
     /// The lines of a table from a place on up to another, byte for byte, none of which is read.
@@ -74,6 +76,7 @@ impl LinesWritten {
     pub(crate) fn push_all(
         &mut self,
         alloc: Global,
+        scratch: &mut Scratch,
         fresh: &[String],
         fields: &[Field],
     ) -> Result<(), NoMemory>
@@ -81,7 +84,7 @@ impl LinesWritten {
             → IsWritten (map reader_of fields.now) self.new (lines ++ map string_bytes fresh.now)) }
     {
         for line in fresh {
-            self.push(alloc, line.as_bytes(), fields)?;
+            self.push(alloc, scratch, line.as_bytes(), fields)?;
         }
         Ok(())
     }

@@ -7,6 +7,7 @@ ghost use Rattle.jsonl_wrapper.specs.Changes.{IsWritten, Leads, Leaves, Replaces
 use crate::made::LinesWritten;
 use crate::table::JsonTable;
 use crate::wholes::count_wholes;
+use json::Scratch;
 use med_value::NoMemory;
 use std::alloc::Global;
 
@@ -90,6 +91,7 @@ impl Middle {
     pub(crate) fn put(
         &mut self,
         alloc: Global,
+        scratch: &mut Scratch,
         table: &JsonTable,
         line: Option<String>,
     ) -> Result<(), NoMemory>
@@ -99,7 +101,8 @@ impl Middle {
         ensures to { OnOk result (self.new.to ≡ self.old.to + 1) }
     {
         if let Some(line) = line {
-            self.made.push(alloc, line.as_bytes(), &table.fields)?;
+            self.made
+                .push(alloc, scratch, line.as_bytes(), &table.fields)?;
         }
         self.to += 1;
         Ok(())
@@ -110,6 +113,7 @@ impl Middle {
     pub(crate) fn close(
         &mut self,
         alloc: Global,
+        scratch: &mut Scratch,
         table: &JsonTable,
         fresh: &[String],
     ) -> Result<(), NoMemory>
@@ -121,6 +125,6 @@ impl Middle {
             return Ok(());
         }
         self.go_to(table, table.lines.len())?;
-        self.made.push_all(alloc, fresh, &table.fields)
+        self.made.push_all(alloc, scratch, fresh, &table.fields)
     }
 }

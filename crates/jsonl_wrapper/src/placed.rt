@@ -11,13 +11,14 @@ ghost use Rattle.jsonl_wrapper.specs.Changes.{Exchanges};
 ghost use Rattle.jsonl_wrapper.specs.Keeping.{IsAgain, IsDraft};
 ghost use Rattle.jsonl_wrapper.specs.Formats.{answer_on};
 
-use crate::contents::{LinesRead, cell_of_line, read_lines, row_of_line};
+use crate::contents::{LinesRead, read_lines};
 use crate::draft::JsonDraft;
 use crate::drafting::{draft_of, given_up, kept};
 use crate::exchange::Exchange;
 use crate::fields::fields_of;
 use crate::known::{known_cell, takes_known};
 use crate::lines::{is_image, line_at};
+use crate::reading::LineBuffer;
 use crate::rewrite::rewritten;
 use crate::rises::{marked, stays_rising};
 use crate::table::JsonTable;
@@ -33,7 +34,7 @@ fn row_at(alloc: Global, table: &JsonTable, at: usize) -> Result<Row, NoMemory>
     requires { at < length table.now.lines.items }
     ensures { IfOk result (λ row. tuple row ≡ row_cells table.now at) }
 {
-    row_of_line(
+    table.buffer.row(
         alloc,
         line_at(&table.content, table.lines[at]),
         &table.fields,
@@ -62,7 +63,7 @@ fn cell_at(alloc: Global, table: &JsonTable, at: usize, column: usize) -> Result
     if let Some(value) = known_cell(table, at, column) {
         return Ok(value);
     }
-    cell_of_line(
+    table.buffer.cell(
         alloc,
         line_at(&table.content, table.lines[at]),
         &table.fields[column],
@@ -182,6 +183,7 @@ impl PlacedTable for JsonTable {
             Err(fault) => return Err(fault),
         };
         let remote = remote.to_string(alloc)?;
+        let buffer = LineBuffer::new(alloc)?;
         let is_image = is_image(&content, &spans);
         let table = JsonTable {
             remote,
@@ -191,6 +193,7 @@ impl PlacedTable for JsonTable {
             is_image,
             wholes,
             rises: false,
+            buffer,
         };
         Ok(marked(table))
     }

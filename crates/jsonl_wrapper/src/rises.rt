@@ -58,6 +58,7 @@ pub(crate) fn marked(table: JsonTable) -> JsonTable
         is_image,
         wholes,
         rises: _,
+        buffer,
     } = table;
     JsonTable {
         remote,
@@ -67,6 +68,7 @@ pub(crate) fn marked(table: JsonTable) -> JsonTable
         is_image,
         wholes,
         rises,
+        buffer,
     }
 }
 

@@ -1,15 +1,25 @@
 //! The cells of integer columns, which a table keeps.
-ghost use Rattle.std.specs.Prelude.{◌≡◌, ◌++◌, Some, map, length, OnOk};
-ghost use Rattle.serde_json.specs.View.{view};
+ghost use Rattle.std.specs.Prelude.{◌≡◌, ◌++◌, map, length, OnOk};
 ghost use Rattle.jsonl_wrapper.specs.Fields.{reader_of};
-ghost use Rattle.jsonl_wrapper.specs.Objects.{read_cell};
-ghost use Rattle.jsonl_wrapper.specs.Wholes.{whole_is, whole_reader, whole_readers, wholes_at};
+ghost use Rattle.jsonl_wrapper.specs.Wholes.{whole_is, whole_readers, wholes_at};
+ghost use Rattle.jsonl_wrapper.specs.Notes.{kept_of, wholes_in};
 
 use crate::fields::Field;
-use crate::objects::{JsonReader, parse_line};
+use crate::notes::{Mark, Marks, blank_marks};
+use crate::objects::read_line;
+use json::Scratch;
 use med_value::{ColType, NoMemory};
-use serde_json::Value;
 use std::alloc::Global;
+
+/// What is kept of a column of integers.
+fn kept_of(mark: Mark) -> Option<i64>
+    ensures { result ≡ kept_of mark }
+{
+    match mark {
+        Some(whole) => whole,
+        None => None,
+    }
+}
 
 /// How many of these columns are of integers.
 pub(crate) fn count_wholes(fields: &[Field]) -> usize
@@ -25,52 +35,46 @@ pub(crate) fn count_wholes(fields: &[Field]) -> usize
     count
 }
 
-/// The integer that a member is, None where it is absent, `null` or something else.
-fn whole_in(member: &str, value: &Value) -> Option<i64>
-    ensures { whole_is result ≡ read_cell (Some (view value.now)) (whole_reader member.now) }
-{
-    match value.get(member) {
-        Some(found) => {
-            if found.is_null() {
-                None
-            } else {
-                found.as_i64()
-            }
-        }
-        None => None,
-    }
-}
-
-/// Adds what the integer columns read in an object.
-pub(crate) fn push_wholes(
+/// Adds the integers that the marks of a line's columns have, for each column of integers.
+pub(crate) fn push_marks(
     wholes: &mut Vec<Option<i64>>,
-    value: &Value,
     fields: &[Field],
+    marks: &[Mark],
 ) -> Result<(), NoMemory>
-    ensures { OnOk result (map whole_is wholes.new.items ≡ map whole_is wholes.old.items
-        ++ map (read_cell (Some (view value.now))) (whole_readers (map reader_of fields.now))) }
+    ensures { OnOk result (map whole_is wholes.new.items
+        ≡ map whole_is wholes.old.items ++ map whole_is (wholes_in (map reader_of fields.now) marks.now)) }
 {
-    for field in fields {
+    let mut fields = fields;
+    let mut marks = marks;
+    while let Some((field, further)) = fields.split_first() {
+        let Some((mark, others)) = marks.split_first() else {
+            return Ok(());
+        };
         match field.kind {
-            ColType::Int => wholes.push(whole_in(field.member.as_str(), value))?,
+            ColType::Int => wholes.push(kept_of(*mark))?,
             ColType::Text | ColType::Bool => {}
         }
+        fields = further;
+        marks = others;
     }
     Ok(())
 }
 
-/// Adds what the integer columns read in a line. A line that is no object is told as want of memory: each line was read when its table was
-/// bound, or is one that was written, so memory alone can be missing.
+/// Adds what the integer columns read in a line. A line that is no object is reported as out of memory: each line was read when its table
+/// was bound, or is one that was written, so memory alone can be missing.
 pub(crate) fn push_line(
     alloc: Global,
+    scratch: &mut Scratch,
     wholes: &mut Vec<Option<i64>>,
     line: &[u8],
     fields: &[Field],
 ) -> Result<(), NoMemory>
     ensures { OnOk result (map whole_is wholes.new.items ≡ map whole_is wholes.old.items ++ wholes_at (map reader_of fields.now) line.now) }
 {
-    match parse_line(&JsonReader, alloc, line) {
-        Ok(value) => push_wholes(wholes, &value, fields),
+    let marks = blank_marks(alloc, fields)?;
+    let mut notes = Marks { fields, marks };
+    match read_line(scratch, line, &mut notes) {
+        Ok(()) => push_marks(wholes, fields, &notes.marks),
         Err(_) => Err(NoMemory),
     }
 }

@@ -5,6 +5,7 @@ ghost use Rattle.med_value.specs.declared.value.ColType.TheVariants.{Int};
 ghost use Rattle.fdw_api.specs.Prelude.{Column, column_of, kinds_of, BoxTable, IsIdle, table_of, CanModify};
 ghost use Rattle.sqlite.specs.Held.{state};
 ghost use Rattle.sqlite.specs.Steps.{over_memory};
+ghost use Rattle.sqlite_tables.specs.Layouts.{layout_at};
 ghost use Rattle.sqlite_writes.specs.Writable.{AreApart, IsWritable};
 ghost use Rattle.sqlite_wrapper.specs.Boxes.{sqlite_state};
 ghost use Rattle.source_tests.specs.Writing.{IsWriting};
@@ -98,7 +99,7 @@ pub fn write_keys<W: Wrapper>(
 
 // A new database in memory, each statement of which may take so many steps.
 fn limited_database(alloc: Global, limit: Option<u64>) -> Result<Connection<MemStore>, Error>
-    ensures writable { (table : ℕ) → IfOk result (λ conn. ∥ IsWritable conn.schema table ∥₁) }
+    ensures writable { (table : ℕ) → IfOk result (λ conn. ∥ IsWritable conn.schema (layout_at table) ∥₁) }
     ensures apart { IfOk result (λ conn. AreApart conn.schema) }
     ensures idle { IfOk result (λ conn. conn.in_transaction ≡ false) }
 {

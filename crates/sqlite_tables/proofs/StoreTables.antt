@@ -6,7 +6,6 @@ use Rattle.sqlite_trees.specs.Objects.{catalog_tree, IsListed}
 use Rattle.sqlite_trees.specs.declared.store.Shape.{Shape}
 use Rattle.sqlite_trees.specs.declared.store.Shape.TheVariants as shape
 use Rattle.sqlite.specs.View.{IsShaped}
-use Rattle.sqlite.specs.Table.{Table}
 use Rattle.sqlite.specs.State.{IsLive}
 use Rattle.sqlite.specs.Held.{Held, state}
 use Rattle.sqlite_rules.proofs.ListLemmas.{has_got}

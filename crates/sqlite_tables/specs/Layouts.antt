@@ -48,9 +48,12 @@ layout_count = length layouts
 abbrev pub layout_at : ℕ → Layout
 layout_at t = slice_index_or layouts t people
 
--- the number of the first layout of a name
+-- the number of the first layout of a name among some, and among those that there are
+abbrev pub place_in : List Layout → List ℕ → Option ℕ
+place_in shapes name = position (λ l. bytes_eq l.name name) shapes
+
 abbrev pub place_of : List ℕ → Option ℕ
-place_of name = position (λ l. bytes_eq l.name name) layouts
+place_of name = place_in layouts name
 
 abbrev pub same_type : ColType → ColType → Bool
 same_type types.Int types.Int = true

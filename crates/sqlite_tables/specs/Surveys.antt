@@ -7,7 +7,7 @@ use Rattle.med_value.specs.declared.cause.Cause.{Cause}
 use Rattle.fdw_api.specs.Prelude.{row_fits, Column, kinds_of}
 use Rattle.med_value.specs.Prelude.{Tuple, row_limit}
 use Rattle.sqlite.specs.Effect.{Database}
-use Rattle.sqlite_tables.specs.Layouts.{Layout, kinds_in, layout_at}
+use Rattle.sqlite_tables.specs.Layouts.{Layout, kinds_in}
 use Rattle.sqlite_tables.specs.Tables.{entry_of}
 use Rattle.sqlite_tables.specs.Readings.{content_causes, sqlite_reading}
 use Rattle.sqlite_tables.specs.Cells.{page_cells, key_in, rows_in, greatest}
@@ -26,8 +26,8 @@ causes_in l entries =
     content_causes (list_all (row_fits (kinds_in l)) (tuples_in l entries)) (nat_lt row_limit (length (tuples_in l entries)))
 
 -- the causes that a table shows which is bound with these columns
-abbrev pub causes_of : List Column → Database → ℕ → List Cause
-causes_of columns db t = (sqlite_reading (kinds_of columns) (entry_of db (layout_at t))).causes
+abbrev pub causes_of : List Column → Database → Layout → List Cause
+causes_of columns db l = (sqlite_reading (kinds_of columns) (entry_of db l)).causes
 
 -- the key of the last row
 abbrev pub last_key : List SqlRow → Option ℤ

@@ -16,7 +16,7 @@ use Rattle.sqlite_resolve.specs.declared.error.CompileError.{CompileError}
 use Rattle.sqlite_tables.specs.StoreShapes.{IsPageText, command_of, range_of}
 use Rattle.sqlite_tables.specs.Steady.{IsCleanAfter}
 use Rattle.fdw_api.specs.Prelude.{TableRow, Entry, Stored}
-use Rattle.sqlite_tables.specs.Layouts.{Layout, kinds_in, layout_at}
+use Rattle.sqlite_tables.specs.Layouts.{Layout, kinds_in}
 use Rattle.sqlite_tables.specs.Cells.{rows_in, key_in}
 use Rattle.sqlite_tables.specs.Fitting.{is_of_shape}
 
@@ -42,10 +42,6 @@ entries_of db l = entries_at db.trees (tree_of db.schema l)
 
 abbrev pub rows_of : Database → Layout → List TableRow
 rows_of db l = rows_in l (entries_of db l)
-
--- the same by the number of the table
-abbrev pub entries_in : Database → ℕ → List SqlRow
-entries_in db t = entries_of db (layout_at t)
 
 -- each layout's page text either is not understood or reads a page of a table
 abbrev pub IsKnown : Schema → Layout → Type 0

@@ -4,10 +4,10 @@ ghost use Rattle.sqlite.specs.Order.{column};
 ghost use Rattle.med_value.specs.Prelude.{datum, tuple};
 ghost use Rattle.fdw_api.specs.Prelude.{cell_fits, row_fits};
 ghost use Rattle.sqlite.specs.declared.types.Value.TheVariants.{Text};
-ghost use Rattle.sqlite_tables.specs.Layouts.{layout_at, kinds_in};
+ghost use Rattle.sqlite_tables.specs.Layouts.{kinds_in};
 ghost use Rattle.sqlite_tables.specs.Cells.{truth_of, cell_of, page_cells, key_in, has_key, is_row};
 
-use crate::layouts::types_of;
+use crate::Shape;
 use med_value::{ColType, Row as Tuple, Value};
 use sqlite::Row;
 use sqlite::types::ValueRef;
@@ -119,19 +119,19 @@ fn three(alloc: Global, first: Value, second: Value, third: Value) -> Result<Tup
 }
 
 /// A row of a page of a table as its key and its cells, which are values of its columns.
-pub fn key_and_cells(alloc: Global, table: u64, row: &Row) -> Result<Keyed, Misread>
+pub fn key_and_cells(alloc: Global, shape: &Shape, row: &Row) -> Result<Keyed, Misread>
     ensures key { IfOk result (λ k. k.key ≡ key_in row.now) }
-    ensures cells { IfOk result (λ k. tuple k.cells ≡ page_cells (layout_at table) row.now) }
-    ensures fits { IfOk result (λ k. row_fits (kinds_in (layout_at table)) (tuple k.cells) ≡ true) }
+    ensures cells { IfOk result (λ k. tuple k.cells ≡ page_cells shape.now row.now) }
+    ensures fits { IfOk result (λ k. row_fits (kinds_in shape.now) (tuple k.cells) ≡ true) }
     ensures stray { IfErr result (λ m. m ≡ Misread.Stray
-        → row_fits (kinds_in (layout_at table)) (page_cells (layout_at table) row.now) ≡ false) }
+        → row_fits (kinds_in shape.now) (page_cells shape.now row.now) ≡ false) }
     ensures no_row { IfErr result (λ m. m ≡ Misread.NoRow → is_row row.now ≡ false) }
 {
     let key = match key_at(row) {
         Some(key) => key,
         None => return Err(Misread::NoRow),
     };
-    let types = types_of(table);
+    let types = shape.kinds();
     let second = match cell(alloc, types[1], row, 1) {
         Ok(value) => value,
         Err(misread) => return Err(misread),

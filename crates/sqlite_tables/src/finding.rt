@@ -3,37 +3,40 @@ ghost use Rattle.std.specs.Prelude.{◌≡◌, ◌++◌, ◌≤◌, [], ◌∷�
 ghost use Rattle.sqlite.specs.Held.{state};
 ghost use Rattle.sqlite.specs.Order.{Row as SqlRow};
 ghost use Rattle.sqlite.specs.View.{IsShaped};
-ghost use Rattle.sqlite_trees.specs.declared.store.Shape.TheVariants as shape;
+ghost use Rattle.sqlite_trees.specs.declared.store.Shape.TheVariants as stored;
 ghost use Rattle.med_value.specs.Datum.{datum};
 ghost use Rattle.fdw_api.specs.Calls.{not_refused};
 ghost use Rattle.sqlite_tables.specs.StoreShapes.{range_of};
-ghost use Rattle.sqlite_tables.specs.Layouts.{layout_at};
 ghost use Rattle.sqlite_tables.specs.Cells.{row_in};
-ghost use Rattle.sqlite_tables.specs.Tables.{IsKnown, IsSure, ReadsOnly, entries_in};
+ghost use Rattle.sqlite_tables.specs.Tables.{IsKnown, IsSure, ReadsOnly, entries_of};
 ghost use Rattle.sqlite_tables.specs.Lookups.{IsLookup, rows_with};
 
 use crate::reading::Lookup;
-use crate::{SourceStore, page_between};
+use crate::{Shape, SourceStore, page_between};
 use fdw_api::interface::Fault;
 use med_value::Value;
 use sqlite::{Connection, Row};
 use std::alloc::Global;
 
 // The row of a key. That there is none is a failure of the source.
-fn row_of_key<S: SourceStore>(conn: &mut Connection<S>, table: u64, key: i64) -> Result<Row, Fault>
+fn row_of_key<S: SourceStore>(
+    conn: &mut Connection<S>,
+    shape: &Shape,
+    key: i64,
+) -> Result<Row, Fault>
     requires idle { conn.old.in_transaction ≡ false }
-    requires known { S.honest ≡ true → ∥ IsKnown conn.old.schema (layout_at table) ∥₁ }
+    requires known { S.honest ≡ true → ∥ IsKnown conn.old.schema shape.now ∥₁ }
     ensures last { S.honest ≡ true → IfOk result (λ row. (before : List SqlRow)
-        × (take 64 (range_of key key (entries_in (state S.Store conn.old).now table)) ≡ before ++ row ∷ [])) }
+        × (take 64 (range_of key key (entries_of (state S.Store conn.old).now shape.now)) ≡ before ++ row ∷ [])) }
     ensures refused { IfErr result not_refused }
     ensures same { S.honest ≡ true → (state S.Store conn.new).now ≡ (state S.Store conn.old).now }
-    ensures sure_last { IsSure (state S.Store conn.old) (state S.Store conn.new) (layout_at table)
+    ensures sure_last { IsSure (state S.Store conn.old) (state S.Store conn.new) shape.now
         → IfOk result (λ row. (before : List SqlRow)
-        × (take 64 (range_of key key (entries_in (state S.Store conn.old).now table)) ≡ before ++ row ∷ [])) }
-    ensures reads { ReadsOnly (state S.Store conn.old) (state S.Store conn.new) (layout_at table) }
+        × (take 64 (range_of key key (entries_of (state S.Store conn.old).now shape.now)) ≡ before ++ row ∷ [])) }
+    ensures reads { ReadsOnly (state S.Store conn.old) (state S.Store conn.new) shape.now }
     ensures idle { conn.new.in_transaction ≡ false }
 {
-    let mut page = match page_between(conn, table, key, key) {
+    let mut page = match page_between(conn, shape, key, key) {
         Err(fault) => return Err(fault),
         Ok(page) => page,
     };
@@ -62,24 +65,24 @@ fn is_rare(lookup: &Lookup, value: &Value) -> bool {
 pub fn rows_with<S: SourceStore>(
     alloc: Global,
     conn: &mut Connection<S>,
-    table: u64,
+    shape: &Shape,
     lookup: &Lookup,
     value: &Value,
 ) -> Result<Option<Vec<Row>>, Fault>
     requires idle { conn.old.in_transaction ≡ false }
-    requires known { S.honest ≡ true → ∥ IsKnown conn.old.schema (layout_at table) ∥₁ }
-    requires shaped { S.honest ≡ true → IsShaped shape.Table (entries_in (state S.Store conn.old).now table) }
-    requires is { S.honest ≡ true → IsLookup (layout_at table) (entries_in (state S.Store conn.old).now table) lookup.now }
-    ensures rows { S.honest ≡ true → IfOk result (λ found. IfSome found (λ rows. map (row_in (layout_at table)) rows.items
-        ≡ rows_with (layout_at table) lookup.now.column (datum value.now) (entries_in (state S.Store conn.old).now table))) }
+    requires known { S.honest ≡ true → ∥ IsKnown conn.old.schema shape.now ∥₁ }
+    requires shaped { S.honest ≡ true → IsShaped stored.Table (entries_of (state S.Store conn.old).now shape.now) }
+    requires is { S.honest ≡ true → IsLookup shape.now (entries_of (state S.Store conn.old).now shape.now) lookup.now }
+    ensures rows { S.honest ≡ true → IfOk result (λ found. IfSome found (λ rows. map (row_in shape.now) rows.items
+        ≡ rows_with shape.now lookup.now.column (datum value.now) (entries_of (state S.Store conn.old).now shape.now))) }
     ensures few { IfOk result (λ found. IfSome found (λ rows. length rows.items ≤ 64)) }
     ensures refused { IfErr result not_refused }
     ensures same { S.honest ≡ true → (state S.Store conn.new).now ≡ (state S.Store conn.old).now }
-    ensures sure_rows { IsSure (state S.Store conn.old) (state S.Store conn.new) (layout_at table)
-        → IsLookup (layout_at table) (entries_in (state S.Store conn.old).now table) lookup.now
-        → IfOk result (λ found. IfSome found (λ rows. map (row_in (layout_at table)) rows.items
-        ≡ rows_with (layout_at table) lookup.now.column (datum value.now) (entries_in (state S.Store conn.old).now table))) }
-    ensures reads { ReadsOnly (state S.Store conn.old) (state S.Store conn.new) (layout_at table) }
+    ensures sure_rows { IsSure (state S.Store conn.old) (state S.Store conn.new) shape.now
+        → IsLookup shape.now (entries_of (state S.Store conn.old).now shape.now) lookup.now
+        → IfOk result (λ found. IfSome found (λ rows. map (row_in shape.now) rows.items
+        ≡ rows_with shape.now lookup.now.column (datum value.now) (entries_of (state S.Store conn.old).now shape.now))) }
+    ensures reads { ReadsOnly (state S.Store conn.old) (state S.Store conn.new) shape.now }
     ensures idle { conn.new.in_transaction ≡ false }
 {
     if !is_rare(lookup, value) {
@@ -91,7 +94,7 @@ pub fn rows_with<S: SourceStore>(
         if rows.len() == 64 {
             return Ok(None);
         }
-        match row_of_key(conn, table, lookup.keys[at]) {
+        match row_of_key(conn, shape, lookup.keys[at]) {
             Err(fault) => return Err(fault),
             Ok(row) => rows.push(row)?,
         }

@@ -2,10 +2,9 @@
 ghost use Rattle.std.specs.Prelude.{◌≡◌};
 ghost use Rattle.std.specs.List.{list_any};
 ghost use Rattle.sqlite_schema.specs.Names.{same_name, table_named};
-ghost use Rattle.sqlite_tables.specs.Layouts.{layout_at};
 ghost use Rattle.sqlite_tables.specs.Fitting.{is_keyed, is_keyed_at, refers_to, is_parent, is_of_shape};
 
-use crate::shapes::shape_at;
+use crate::Shape;
 use sqlite_schema::names::same_name;
 use sqlite_schema::schema::{Reference, Schema, Table};
 
@@ -65,10 +64,10 @@ fn is_parent(tables: &[Table], name: &[u8]) -> bool
 
 /// Whether the stored table of a layout is of its shape: keyed by its column id, with two further columns, named by no view, and referred
 /// to by no table of the database.
-pub fn is_of_shape(schema: &Schema, table: u64) -> bool
-    ensures { result ≡ is_of_shape schema.now (layout_at table) }
+pub fn is_of_shape(schema: &Schema, shape: &Shape) -> bool
+    ensures { result ≡ is_of_shape schema.now shape.now }
 {
-    let name = shape_at(table).name.as_bytes();
+    let name = shape.name().as_bytes();
     has_keyed(schema, name)
         && !is_parent(schema.tables.as_slice(), name)
         && schema.view_named(name).is_none()

@@ -26,7 +26,7 @@ pub use layouts::{place_of, types_match};
 pub use openings::open_table;
 pub use pages::page_between;
 pub use reading::{Lookup, read_lookup};
-pub use shapes::{Orders, People, RemoteShape, ShapeFacts, layout_count, shape_at};
+pub use shapes::{Shape, shipped_shapes};
 pub use steady::{SourceStore, page_of, sound_stores_are_steady};
 pub use store_pages::page;
 pub use surveys::{count_rows, next_after};

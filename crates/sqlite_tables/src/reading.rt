@@ -5,13 +5,12 @@ ghost use Rattle.sqlite.specs.Order.{Row as SqlRow};
 ghost use Rattle.med_value.specs.Datum.{datum, tuple, cell};
 ghost use Rattle.fdw_api.specs.Calls.{not_refused};
 ghost use Rattle.wrapper_parts.specs.Indexes.{IsIndexFrom};
-ghost use Rattle.sqlite_tables.specs.Layouts.{layout_at};
 ghost use Rattle.sqlite_tables.specs.Cells.{key_in};
-ghost use Rattle.sqlite_tables.specs.Tables.{IsKnown, IsSure, ReadsOnly, entries_in};
+ghost use Rattle.sqlite_tables.specs.Tables.{IsKnown, IsSure, ReadsOnly, entries_of};
 ghost use Rattle.sqlite_tables.specs.Surveys.{last_key};
 ghost use Rattle.sqlite_tables.specs.Lookups.{Adds, Parts, IsRead, IsLookup};
 
-use crate::{Keyed, Misread, SourceStore, key_and_cells, next_after, page_between};
+use crate::{Keyed, Misread, Shape, SourceStore, key_and_cells, next_after, page_between};
 use fdw_api::interface::Fault;
 use med_value::{NoMemory, Row as Tuple, Value};
 use sqlite::{Connection, Row};
@@ -69,16 +68,16 @@ fn cell_of(alloc: Global, row: &Tuple, column: usize) -> Result<Value, NoMemory>
 // Adds a row to what was read, and answers its key.
 fn add_row(
     alloc: Global,
-    table: u64,
+    shape: &Shape,
     column: usize,
     row: &Row,
     read: &mut ColumnRead,
 ) -> Result<i64, Fault>
     ensures key { IfOk result (λ key. key ≡ key_in row.now) }
-    ensures adds { OnOk result (Adds (layout_at table) column (row.now ∷ []) read.old read.new) }
+    ensures adds { OnOk result (Adds shape.now column (row.now ∷ []) read.old read.new) }
     ensures refused { IfErr result not_refused }
 {
-    let Keyed { key, cells } = match key_and_cells(alloc, table, row) {
+    let Keyed { key, cells } = match key_and_cells(alloc, shape, row) {
         Ok(keyed) => keyed,
         Err(misread) => return Err(fault_of_misread(misread)),
     };
@@ -91,18 +90,18 @@ fn add_row(
 // Adds the rows of a page to what was read, and answers the key of the last one.
 fn add_page(
     alloc: Global,
-    table: u64,
+    shape: &Shape,
     column: usize,
     page: &[Row],
     read: &mut ColumnRead,
 ) -> Result<Option<i64>, Fault>
     ensures last { IfOk result (λ last. last ≡ last_key page.now) }
-    ensures adds { OnOk result (Adds (layout_at table) column page.now read.old read.new) }
+    ensures adds { OnOk result (Adds shape.now column page.now read.old read.new) }
     ensures refused { IfErr result not_refused }
 {
     let mut last = None;
     for row in page {
-        match add_row(alloc, table, column, row, read) {
+        match add_row(alloc, shape, column, row, read) {
             Err(fault) => return Err(fault),
             Ok(key) => last = Some(key),
         }
@@ -114,29 +113,29 @@ fn add_page(
 fn read_page<S: SourceStore>(
     alloc: Global,
     conn: &mut Connection<S>,
-    table: u64,
+    shape: &Shape,
     column: usize,
     low: i64,
     read: &mut ColumnRead,
 ) -> Result<Option<i64>, Fault>
     requires idle { conn.old.in_transaction ≡ false }
-    requires known { S.honest ≡ true → ∥ IsKnown conn.old.schema (layout_at table) ∥₁ }
+    requires known { S.honest ≡ true → ∥ IsKnown conn.old.schema shape.now ∥₁ }
     ensures adds { S.honest ≡ true → IfOk result (λ next. (page : List SqlRow)
-        × Parts (entries_in (state S.Store conn.old).now table) (Some low) page next × Adds (layout_at table) column page read.old read.new) }
+        × Parts (entries_of (state S.Store conn.old).now shape.now) (Some low) page next × Adds shape.now column page read.old read.new) }
     ensures refused { IfErr result not_refused }
     ensures same { S.honest ≡ true → (state S.Store conn.new).now ≡ (state S.Store conn.old).now }
-    ensures sure_adds { IsSure (state S.Store conn.old) (state S.Store conn.new) (layout_at table)
+    ensures sure_adds { IsSure (state S.Store conn.old) (state S.Store conn.new) shape.now
         → IfOk result (λ next. (page : List SqlRow)
-        × Parts (entries_in (state S.Store conn.old).now table) (Some low) page next
-        × Adds (layout_at table) column page read.old read.new) }
-    ensures reads { ReadsOnly (state S.Store conn.old) (state S.Store conn.new) (layout_at table) }
+        × Parts (entries_of (state S.Store conn.old).now shape.now) (Some low) page next
+        × Adds shape.now column page read.old read.new) }
+    ensures reads { ReadsOnly (state S.Store conn.old) (state S.Store conn.new) shape.now }
     ensures idle { conn.new.in_transaction ≡ false }
 {
-    let page = match page_between(conn, table, low, i64::MAX) {
+    let page = match page_between(conn, shape, low, i64::MAX) {
         Err(fault) => return Err(fault),
         Ok(page) => page,
     };
-    match add_page(alloc, table, column, &page, read) {
+    match add_page(alloc, shape, column, &page, read) {
         Err(fault) => Err(fault),
         Ok(last) => Ok(next_after(page.len(), last)),
     }
@@ -147,18 +146,18 @@ fn read_page<S: SourceStore>(
 fn read_column<S: SourceStore>(
     alloc: Global,
     conn: &mut Connection<S>,
-    table: u64,
+    shape: &Shape,
     column: usize,
 ) -> Result<ColumnRead, Fault>
     requires idle { conn.old.in_transaction ≡ false }
-    requires known { S.honest ≡ true → ∥ IsKnown conn.old.schema (layout_at table) ∥₁ }
+    requires known { S.honest ≡ true → ∥ IsKnown conn.old.schema shape.now ∥₁ }
     ensures read { S.honest ≡ true
-        → IfOk result (IsRead (layout_at table) column (entries_in (state S.Store conn.old).now table) None) }
+        → IfOk result (IsRead shape.now column (entries_of (state S.Store conn.old).now shape.now) None) }
     ensures refused { IfErr result not_refused }
     ensures same { S.honest ≡ true → (state S.Store conn.new).now ≡ (state S.Store conn.old).now }
-    ensures sure_read { IsSure (state S.Store conn.old) (state S.Store conn.new) (layout_at table)
-        → IfOk result (IsRead (layout_at table) column (entries_in (state S.Store conn.old).now table) None) }
-    ensures reads { ReadsOnly (state S.Store conn.old) (state S.Store conn.new) (layout_at table) }
+    ensures sure_read { IsSure (state S.Store conn.old) (state S.Store conn.new) shape.now
+        → IfOk result (IsRead shape.now column (entries_of (state S.Store conn.old).now shape.now) None) }
+    ensures reads { ReadsOnly (state S.Store conn.old) (state S.Store conn.new) shape.now }
     ensures idle { conn.new.in_transaction ≡ false }
 {
     let mut read = ColumnRead {
@@ -170,7 +169,7 @@ fn read_column<S: SourceStore>(
         let Some(low) = next else {
             return Ok(read);
         };
-        match read_page(alloc, conn, table, column, low, &mut read) {
+        match read_page(alloc, conn, shape, column, low, &mut read) {
             Err(fault) => return Err(fault),
             Ok(further) => next = further,
         }
@@ -201,21 +200,21 @@ fn index_of(alloc: Global, values: Vec<Value>) -> Result<PlaceIndex, NoMemory>
 pub fn read_lookup<S: SourceStore>(
     alloc: Global,
     conn: &mut Connection<S>,
-    table: u64,
+    shape: &Shape,
     column: usize,
 ) -> Result<Lookup, Fault>
     requires idle { conn.old.in_transaction ≡ false }
-    requires known { S.honest ≡ true → ∥ IsKnown conn.old.schema (layout_at table) ∥₁ }
-    ensures is { S.honest ≡ true → IfOk result (IsLookup (layout_at table) (entries_in (state S.Store conn.old).now table)) }
+    requires known { S.honest ≡ true → ∥ IsKnown conn.old.schema shape.now ∥₁ }
+    ensures is { S.honest ≡ true → IfOk result (IsLookup shape.now (entries_of (state S.Store conn.old).now shape.now)) }
     ensures column { IfOk result (λ x. x.column ≡ column) }
     ensures refused { IfErr result not_refused }
     ensures same { S.honest ≡ true → (state S.Store conn.new).now ≡ (state S.Store conn.old).now }
-    ensures sure_is { IsSure (state S.Store conn.old) (state S.Store conn.new) (layout_at table)
-        → IfOk result (IsLookup (layout_at table) (entries_in (state S.Store conn.old).now table)) }
-    ensures reads { ReadsOnly (state S.Store conn.old) (state S.Store conn.new) (layout_at table) }
+    ensures sure_is { IsSure (state S.Store conn.old) (state S.Store conn.new) shape.now
+        → IfOk result (IsLookup shape.now (entries_of (state S.Store conn.old).now shape.now)) }
+    ensures reads { ReadsOnly (state S.Store conn.old) (state S.Store conn.new) shape.now }
     ensures idle { conn.new.in_transaction ≡ false }
 {
-    let ColumnRead { keys, values } = match read_column(alloc, conn, table, column) {
+    let ColumnRead { keys, values } = match read_column(alloc, conn, shape, column) {
         Err(fault) => return Err(fault),
         Ok(read) => read,
     };

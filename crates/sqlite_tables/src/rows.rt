@@ -3,11 +3,10 @@ ghost use Rattle.std.specs.Prelude.{◌≡◌, ◌≤◌, true, false, Some, len
 ghost use Rattle.sqlite.specs.Order.{column};
 ghost use Rattle.sqlite.specs.declared.types.Value.TheVariants.{Text};
 ghost use Rattle.fdw_api.specs.Scan.{cell_fits};
-ghost use Rattle.sqlite_tables.specs.Layouts.{layout_at};
 ghost use Rattle.sqlite_tables.specs.Cells.{truth_of, cell_of, key_in, is_row};
 ghost use Rattle.sqlite_tables.specs.Surveys.{fits_in};
 
-use crate::{Misread, shape_at};
+use crate::{Misread, Shape};
 use med_value::ColType;
 use sqlite::Row;
 use sqlite::types::ValueRef;
@@ -62,17 +61,17 @@ fn check_cell(kind: ColType, row: &Row, at: usize) -> Result<(), Misread>
 }
 
 /// Looks at a row of a page of a table, and answers its key. No memory is taken.
-pub(crate) fn check_row(table: u64, row: &Row) -> Result<i64, Misread>
+pub(crate) fn check_row(shape: &Shape, row: &Row) -> Result<i64, Misread>
     ensures key { IfOk result (λ key. key ≡ key_in row.now) }
-    ensures fits { OnOk result (fits_in (layout_at table) row.now ≡ true) }
-    ensures stray { IfErr result (λ m. m ≡ Misread.Stray → fits_in (layout_at table) row.now ≡ false) }
+    ensures fits { OnOk result (fits_in shape.now row.now ≡ true) }
+    ensures stray { IfErr result (λ m. m ≡ Misread.Stray → fits_in shape.now row.now ≡ false) }
     ensures no_row { IfErr result (λ m. m ≡ Misread.NoRow → is_row row.now ≡ false) }
 {
     let key = match row.get_ref(0) {
         Ok(ValueRef::Int(key)) => key,
         _ => return Err(Misread::NoRow),
     };
-    let kinds = shape_at(table).kinds;
+    let kinds = shape.kinds();
     match check_cell(kinds[1], row, 1) {
         Ok(()) => {}
         Err(misread) => return Err(misread),

@@ -1,163 +1,122 @@
-//! The shapes of remote tables that are compiled in, and the list of them.
-ghost use Rattle.std.specs.Prelude.{◌≡◌};
-ghost use Rattle.sqlite.specs.Table.{Table};
-ghost use Rattle.sqlite_tables.specs.Layouts.{Layout, kinds_in, layout_at, layout_count};
-ghost use Rattle.sqlite_tables.specs.Shapes.{IsShape};
+//! Shapes of remote tables as values: what a table is called, the types of its columns, and the three texts by which it is read and written.
+ghost use Rattle.std.specs.Prelude.{◌≡◌, IfOk};
+ghost use Rattle.sqlite_tables.specs.Layouts.{kinds_in, layouts, orders, people};
+ghost use Rattle.sqlite_tables.specs.Shapes.{IsShape, orders_table, people_table};
 
-use med_value::ColType;
+use med_value::{ColType, NoMemory};
+use std::alloc::Global;
+use std::marker::Model;
 
-/// A shape of remote tables, which are read and written by three texts.
-///
-/// `layout` is its name, the types of its columns and its texts, and `table` is such a table. The law `texts`: the table has this name, and
-/// in a database of it alone the page text gives the first rows of a key range in key order, the delete text takes the row of a key out,
-/// and the insert text puts a row in.
-pub trait RemoteShape {
-    ghost layout: { Layout };
+/// The shape of a remote table: its name, the types of its columns and its texts. Clauses see it as a layout.
+#[derive(Debug, Drop)]
+pub struct Shape {
+    name: String,
+    second: ColType,
+    third: ColType,
+    page: String,
+    deleting: String,
+    inserting: String,
+}
 
-    ghost table: { Table };
+impl Model for Shape {
+    ghost use Rattle.std.specs.Prelude.{string_bytes};
+    ghost use Rattle.sqlite_tables.specs.Layouts.{Layout};
+
+    ghost Value = { Layout };
+
+    ghost view = { λ s. record {
+      name = string_bytes s.name;
+      second = s.second;
+      third = s.third;
+      page = string_bytes s.page;
+      deleting = string_bytes s.deleting;
+      inserting = string_bytes s.inserting;
+    } };
+}
+
+impl Shape {
+    /// Tables of orders: a key, a part and a number. It fails for want of memory alone.
+    pub fn orders(alloc: Global) -> Result<Shape, NoMemory>
+        ensures { IfOk result (λ s. s ≡ orders) }
+    {
+        Ok(Shape {
+            name: "orders".to_string(alloc)?,
+            second: ColType::Int,
+            third: ColType::Int,
+            page: "SELECT id, part, n FROM orders WHERE id >= ?1 AND id <= ?2 ORDER BY id LIMIT 64".to_string(
+                alloc,
+            )?,
+            deleting: "DELETE FROM orders WHERE id = ?1".to_string(alloc)?,
+            inserting: "INSERT INTO orders (id, part, n) VALUES (?1, ?2, ?3)".to_string(alloc)?,
+        })
+    }
+
+    /// Tables of people: a key, a name and whether the person is active. It fails for want of memory alone.
+    pub fn people(alloc: Global) -> Result<Shape, NoMemory>
+        ensures { IfOk result (λ s. s ≡ people) }
+    {
+        Ok(Shape {
+            name: "people".to_string(alloc)?,
+            second: ColType::Text,
+            third: ColType::Bool,
+            page: "SELECT id, name, active FROM people WHERE id >= ?1 AND id <= ?2 ORDER BY id LIMIT 64".to_string(
+                alloc,
+            )?,
+            deleting: "DELETE FROM people WHERE id = ?1".to_string(alloc)?,
+            inserting: "INSERT INTO people (id, name, active) VALUES (?1, ?2, ?3)".to_string(
+                alloc,
+            )?,
+        })
+    }
 
     /// The name of a table of this shape.
-    fn name(&self) -> &'static str
-        ensures { result.now ≡ layout.name };
+    pub fn name(&self) -> &str
+        ensures { result.now ≡ self.now.name }
+    {
+        self.name.as_str()
+    }
 
     /// The types of its columns, of which the first is its key.
-    fn kinds(&self) -> [ColType; 3]
-        ensures { result ≡ kinds_in layout };
+    pub fn kinds(&self) -> [ColType; 3]
+        ensures { result ≡ kinds_in self.now }
+    {
+        [ColType::Int, self.second, self.third]
+    }
 
     /// The text that reads a page of it.
-    fn page_text(&self) -> &'static str
-        ensures { result.now ≡ layout.page };
+    pub fn page_text(&self) -> &str
+        ensures { result.now ≡ self.now.page }
+    {
+        self.page.as_str()
+    }
 
     /// The text that takes the row of a key out of it.
-    fn delete_text(&self) -> &'static str
-        ensures { result.now ≡ layout.deleting };
+    pub fn delete_text(&self) -> &str
+        ensures { result.now ≡ self.now.deleting }
+    {
+        self.deleting.as_str()
+    }
 
     /// The text that puts a row into it.
-    fn insert_text(&self) -> &'static str
-        ensures { result.now ≡ layout.inserting };
-
-    ghost texts: { IsShape layout table };
+    pub fn insert_text(&self) -> &str
+        ensures { result.now ≡ self.now.inserting }
+    {
+        self.inserting.as_str()
+    }
 }
 
-/// Tables of orders: a key, a part and a number.
-#[derive(Clone, Copy, Debug)]
-pub struct Orders;
-
-impl RemoteShape for Orders {
-    ghost use Rattle.sqlite_tables.specs.Layouts.{orders};
-    ghost use Rattle.sqlite_tables.specs.Shapes.{orders_table, orders_texts};
-
-    ghost layout = { orders };
-
-    ghost table = { orders_table 0 };
-
-    fn name(&self) -> &'static str {
-        "orders"
-    }
-
-    fn kinds(&self) -> [ColType; 3] {
-        [ColType::Int, ColType::Int, ColType::Int]
-    }
-
-    fn page_text(&self) -> &'static str {
-        "SELECT id, part, n FROM orders WHERE id >= ?1 AND id <= ?2 ORDER BY id LIMIT 64"
-    }
-
-    fn delete_text(&self) -> &'static str {
-        "DELETE FROM orders WHERE id = ?1"
-    }
-
-    fn insert_text(&self) -> &'static str {
-        "INSERT INTO orders (id, part, n) VALUES (?1, ?2, ?3)"
-    }
-
-    ghost texts = { orders_texts };
-}
-
-/// Tables of people: a key, a name and whether the person is active.
-#[derive(Clone, Copy, Debug)]
-pub struct People;
-
-impl RemoteShape for People {
-    ghost use Rattle.sqlite_tables.specs.Layouts.{people};
-    ghost use Rattle.sqlite_tables.specs.Shapes.{people_table, people_texts};
-
-    ghost layout = { people };
-
-    ghost table = { people_table 0 };
-
-    fn name(&self) -> &'static str {
-        "people"
-    }
-
-    fn kinds(&self) -> [ColType; 3] {
-        [ColType::Int, ColType::Text, ColType::Bool]
-    }
-
-    fn page_text(&self) -> &'static str {
-        "SELECT id, name, active FROM people WHERE id >= ?1 AND id <= ?2 ORDER BY id LIMIT 64"
-    }
-
-    fn delete_text(&self) -> &'static str {
-        "DELETE FROM people WHERE id = ?1"
-    }
-
-    fn insert_text(&self) -> &'static str {
-        "INSERT INTO people (id, name, active) VALUES (?1, ?2, ?3)"
-    }
-
-    ghost texts = { people_texts };
-}
-
-/// What a shape tells of its tables.
-#[derive(Clone, Copy, Debug)]
-pub struct ShapeFacts {
-    /// Their name.
-    pub name: &'static str,
-    /// The types of their columns, of which the first is the key.
-    pub kinds: [ColType; 3],
-    /// The text that reads a page.
-    pub page_text: &'static str,
-    /// The text that takes the row of a key out.
-    pub delete_text: &'static str,
-    /// The text that puts a row in.
-    pub insert_text: &'static str,
-}
-
-// What a shape tells.
-fn facts_of<T: RemoteShape>(shape: &T) -> ShapeFacts
-    ensures name { result.name.now ≡ (T.layout).name }
-    ensures kinds { result.kinds ≡ kinds_in T.layout }
-    ensures page { result.page_text.now ≡ (T.layout).page }
-    ensures deleting { result.delete_text.now ≡ (T.layout).deleting }
-    ensures inserting { result.insert_text.now ≡ (T.layout).inserting }
+/// The shapes of the tables with which a database in memory begins: that of orders, and that of people. It fails for want of memory alone.
+pub fn shipped_shapes(alloc: Global) -> Result<Vec<Shape>, NoMemory>
+    ensures { IfOk result (λ shapes. shapes.items ≡ layouts) }
 {
-    ShapeFacts {
-        name: shape.name(),
-        kinds: shape.kinds(),
-        page_text: shape.page_text(),
-        delete_text: shape.delete_text(),
-        insert_text: shape.insert_text(),
-    }
+    let orders = Shape::orders(alloc)?;
+    let people = Shape::people(alloc)?;
+    Ok(vec![in alloc; orders, people]?)
 }
 
-/// How many shapes there are.
-pub fn layout_count() -> u64
-    ensures { result ≡ layout_count }
-{
-    2
-}
-
-/// What the shape of a number tells of its tables: 0 is that of orders, and 1, as any number of none, that of people.
-pub fn shape_at(table: u64) -> ShapeFacts
-    ensures name { result.name.now ≡ (layout_at table).name }
-    ensures kinds { result.kinds ≡ kinds_in (layout_at table) }
-    ensures page { result.page_text.now ≡ (layout_at table).page }
-    ensures deleting { result.delete_text.now ≡ (layout_at table).deleting }
-    ensures inserting { result.insert_text.now ≡ (layout_at table).inserting }
-{
-    match table {
-        0 => facts_of(&Orders),
-        _ => facts_of(&People),
-    }
-}
+/// In a database of such a table alone the texts of each of these shapes are for it: the page text gives the first rows of a key range in
+/// key order, the delete text takes the row of a key out, and the insert text puts a row in.
+pub fn texts_are_for_their_tables()
+    ensures orders { IsShape orders (orders_table 0) }
+    ensures people { IsShape people (people_table 0) }
+{}

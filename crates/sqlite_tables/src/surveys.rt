@@ -6,28 +6,27 @@ ghost use Rattle.med_value.specs.Prelude.{phase_of, row_limit};
 ghost use Rattle.med_value.specs.declared.cause.Cause.TheVariants.{InvalidText};
 ghost use Rattle.fdw_api.specs.Prelude.{not_refused, is_of_run};
 ghost use Rattle.sqlite_tables.specs.StoreShapes.{range_of};
-ghost use Rattle.sqlite_tables.specs.Layouts.{layout_at};
 ghost use Rattle.sqlite_tables.specs.Cells.{greatest};
-ghost use Rattle.sqlite_tables.specs.Tables.{IsKnown, IsSure, ReadsOnly, entries_in, rows_of};
+ghost use Rattle.sqlite_tables.specs.Tables.{IsKnown, IsSure, ReadsOnly, entries_of, rows_of};
 ghost use Rattle.sqlite_tables.specs.Refusing.{OnlyBy};
 ghost use Rattle.sqlite_tables.specs.Surveys.{fits_in, last_key, next_after, IsSeen, causes_in};
 
 use crate::rows::check_row;
-use crate::{Misread, SourceStore, page_between};
+use crate::{Misread, Shape, SourceStore, page_between};
 use fdw_api::interface::Fault;
 use med_value::Cause;
 use med_value::limits::ROW_LIMIT;
 use sqlite::{Connection, Row};
 
 // Reads the rows of a page, and answers the key of the last one.
-fn check_rows(table: u64, page: &[Row]) -> Result<Option<i64>, Misread>
-    ensures fit { IfOk result (λ _. list_all (fits_in (layout_at table)) page.now ≡ true) }
+fn check_rows(shape: &Shape, page: &[Row]) -> Result<Option<i64>, Misread>
+    ensures fit { IfOk result (λ _. list_all (fits_in shape.now) page.now ≡ true) }
     ensures last { IfOk result (λ last. last ≡ last_key page.now) }
-    ensures stray { IfErr result (λ m. m ≡ Misread.Stray → list_all (fits_in (layout_at table)) page.now ≡ false) }
+    ensures stray { IfErr result (λ m. m ≡ Misread.Stray → list_all (fits_in shape.now) page.now ≡ false) }
 {
     let mut last = None;
     for row in page {
-        match check_row(table, row) {
+        match check_row(shape, row) {
             Err(misread) => return Err(misread),
             Ok(key) => last = Some(key),
         }
@@ -73,31 +72,31 @@ fn fault_of_content(misread: Misread) -> Fault
 // Reads the page of a table that begins at a key.
 fn survey_page<S: SourceStore>(
     conn: &mut Connection<S>,
-    table: u64,
+    shape: &Shape,
     low: i64,
 ) -> Result<Surveyed, Fault>
     requires idle { conn.old.in_transaction ≡ false }
-    requires known { S.honest ≡ true → ∥ IsKnown conn.old.schema (layout_at table) ∥₁ }
+    requires known { S.honest ≡ true → ∥ IsKnown conn.old.schema shape.now ∥₁ }
     ensures seen { S.honest ≡ true
-        → IfOk result (λ s. IsSeen (layout_at table) (entries_in (state S.Store conn.old).now table) (Some low) s.next s.count) }
+        → IfOk result (λ s. IsSeen shape.now (entries_of (state S.Store conn.old).now shape.now) (Some low) s.next s.count) }
     ensures full { IfOk result (λ s. IfSome s.next (λ _. s.count ≡ 64)) }
     ensures counted { IfOk result (λ s. s.count < 2 ^ 63) }
     ensures refused { IfErr result (OnlyBy (λ c. (c ≡ InvalidText) × (S.honest ≡ true
-        → list_all (fits_in (layout_at table)) (range_of low greatest (entries_in (state S.Store conn.old).now table)) ≡ false))) }
+        → list_all (fits_in shape.now) (range_of low greatest (entries_of (state S.Store conn.old).now shape.now)) ≡ false))) }
     ensures same { S.honest ≡ true → (state S.Store conn.new).now ≡ (state S.Store conn.old).now }
-    ensures sure_seen { IsSure (state S.Store conn.old) (state S.Store conn.new) (layout_at table)
-        → IfOk result (λ s. IsSeen (layout_at table) (entries_in (state S.Store conn.old).now table) (Some low) s.next s.count) }
-    ensures sure_refused { IfErr result (OnlyBy (λ _. IsSure (state S.Store conn.old) (state S.Store conn.new) (layout_at table)
-        → list_all (fits_in (layout_at table)) (range_of low greatest (entries_in (state S.Store conn.old).now table)) ≡ false)) }
-    ensures reads { ReadsOnly (state S.Store conn.old) (state S.Store conn.new) (layout_at table) }
+    ensures sure_seen { IsSure (state S.Store conn.old) (state S.Store conn.new) shape.now
+        → IfOk result (λ s. IsSeen shape.now (entries_of (state S.Store conn.old).now shape.now) (Some low) s.next s.count) }
+    ensures sure_refused { IfErr result (OnlyBy (λ _. IsSure (state S.Store conn.old) (state S.Store conn.new) shape.now
+        → list_all (fits_in shape.now) (range_of low greatest (entries_of (state S.Store conn.old).now shape.now)) ≡ false)) }
+    ensures reads { ReadsOnly (state S.Store conn.old) (state S.Store conn.new) shape.now }
     ensures idle { conn.new.in_transaction ≡ false }
 {
-    let page = match page_between(conn, table, low, i64::MAX) {
+    let page = match page_between(conn, shape, low, i64::MAX) {
         Err(fault) => return Err(fault),
         Ok(page) => page,
     };
     let count = page.len();
-    match check_rows(table, &page) {
+    match check_rows(shape, &page) {
         Err(misread) => Err(fault_of_content(misread)),
         Ok(last) => Ok(Surveyed {
             count,
@@ -110,29 +109,29 @@ fn survey_page<S: SourceStore>(
 /// are more than 1,000,000 rows (54000).
 pub(crate) fn read_whole<S: SourceStore>(
     conn: &mut Connection<S>,
-    table: u64,
+    shape: &Shape,
 ) -> Result<usize, Fault>
     requires idle { conn.old.in_transaction ≡ false }
-    requires known { S.honest ≡ true → ∥ IsKnown conn.old.schema (layout_at table) ∥₁ }
-    ensures ok { S.honest ≡ true → OnOk result (causes_in (layout_at table) (entries_in (state S.Store conn.old).now table) ≡ []) }
-    ensures count { S.honest ≡ true → IfOk result (λ n. n ≡ length (rows_of (state S.Store conn.old).now (layout_at table))) }
+    requires known { S.honest ≡ true → ∥ IsKnown conn.old.schema shape.now ∥₁ }
+    ensures ok { S.honest ≡ true → OnOk result (causes_in shape.now (entries_of (state S.Store conn.old).now shape.now) ≡ []) }
+    ensures count { S.honest ≡ true → IfOk result (λ n. n ≡ length (rows_of (state S.Store conn.old).now shape.now)) }
     ensures few { IfOk result (λ n. n ≤ row_limit) }
     ensures refused { IfErr result (OnlyBy (λ c. (is_of_run (phase_of c) ≡ true)
-        × (S.honest ≡ true → Contains (causes_in (layout_at table) (entries_in (state S.Store conn.old).now table)) c))) }
+        × (S.honest ≡ true → Contains (causes_in shape.now (entries_of (state S.Store conn.old).now shape.now)) c))) }
     ensures same { S.honest ≡ true → (state S.Store conn.new).now ≡ (state S.Store conn.old).now }
-    ensures sure_ok { IsSure (state S.Store conn.old) (state S.Store conn.new) (layout_at table)
-        → OnOk result (causes_in (layout_at table) (entries_in (state S.Store conn.old).now table) ≡ []) }
-    ensures sure_count { IsSure (state S.Store conn.old) (state S.Store conn.new) (layout_at table)
-        → IfOk result (λ n. n ≡ length (rows_of (state S.Store conn.old).now (layout_at table))) }
-    ensures sure_refused { IfErr result (OnlyBy (λ c. IsSure (state S.Store conn.old) (state S.Store conn.new) (layout_at table)
-        → Contains (causes_in (layout_at table) (entries_in (state S.Store conn.old).now table)) c)) }
-    ensures reads { ReadsOnly (state S.Store conn.old) (state S.Store conn.new) (layout_at table) }
+    ensures sure_ok { IsSure (state S.Store conn.old) (state S.Store conn.new) shape.now
+        → OnOk result (causes_in shape.now (entries_of (state S.Store conn.old).now shape.now) ≡ []) }
+    ensures sure_count { IsSure (state S.Store conn.old) (state S.Store conn.new) shape.now
+        → IfOk result (λ n. n ≡ length (rows_of (state S.Store conn.old).now shape.now)) }
+    ensures sure_refused { IfErr result (OnlyBy (λ c. IsSure (state S.Store conn.old) (state S.Store conn.new) shape.now
+        → Contains (causes_in shape.now (entries_of (state S.Store conn.old).now shape.now)) c)) }
+    ensures reads { ReadsOnly (state S.Store conn.old) (state S.Store conn.new) shape.now }
     ensures idle { conn.new.in_transaction ≡ false }
 {
     let mut next = Some(i64::MIN);
     let mut count: usize = 0;
     while let Some(low) = next {
-        match survey_page(conn, table, low) {
+        match survey_page(conn, shape, low) {
             Err(fault) => return Err(fault),
             Ok(page) => {
                 count += page.count;
@@ -150,19 +149,19 @@ pub(crate) fn read_whole<S: SourceStore>(
 ///
 /// A table of which that is not so is told as a failure of the source. The number is told over a store that always returns what was
 /// written, and of each call by itself that is sure (`IsSure`).
-pub fn count_rows<S: SourceStore>(conn: &mut Connection<S>, table: u64) -> Result<usize, Fault>
+pub fn count_rows<S: SourceStore>(conn: &mut Connection<S>, shape: &Shape) -> Result<usize, Fault>
     requires idle { conn.old.in_transaction ≡ false }
-    requires known { S.honest ≡ true → ∥ IsKnown conn.old.schema (layout_at table) ∥₁ }
-    ensures count { S.honest ≡ true → IfOk result (λ n. n ≡ length (rows_of (state S.Store conn.old).now (layout_at table))) }
+    requires known { S.honest ≡ true → ∥ IsKnown conn.old.schema shape.now ∥₁ }
+    ensures count { S.honest ≡ true → IfOk result (λ n. n ≡ length (rows_of (state S.Store conn.old).now shape.now)) }
     ensures few { IfOk result (λ n. n ≤ row_limit) }
     ensures refused { IfErr result not_refused }
     ensures same { S.honest ≡ true → (state S.Store conn.new).now ≡ (state S.Store conn.old).now }
-    ensures sure_count { IsSure (state S.Store conn.old) (state S.Store conn.new) (layout_at table)
-        → IfOk result (λ n. n ≡ length (rows_of (state S.Store conn.old).now (layout_at table))) }
-    ensures reads { ReadsOnly (state S.Store conn.old) (state S.Store conn.new) (layout_at table) }
+    ensures sure_count { IsSure (state S.Store conn.old) (state S.Store conn.new) shape.now
+        → IfOk result (λ n. n ≡ length (rows_of (state S.Store conn.old).now shape.now)) }
+    ensures reads { ReadsOnly (state S.Store conn.old) (state S.Store conn.new) shape.now }
     ensures idle { conn.new.in_transaction ≡ false }
 {
-    match read_whole(conn, table) {
+    match read_whole(conn, shape) {
         Ok(count) => Ok(count),
         Err(Fault::NoMemory) => Err(Fault::NoMemory),
         Err(_) => Err(Fault::Source),

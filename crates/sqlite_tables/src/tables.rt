@@ -4,15 +4,13 @@ ghost use Rattle.std.specs.List.{IsDistinct};
 ghost use Rattle.sqlite.specs.Held.{state};
 ghost use Rattle.med_value.specs.declared.cause.Cause.TheVariants.{TableNotFound};
 ghost use Rattle.sqlite_tables.specs.Steady.{IsCleanAfter};
-ghost use Rattle.sqlite_tables.specs.Layouts.{layout_at};
 ghost use Rattle.sqlite_tables.specs.Fitting.{is_of_shape};
 ghost use Rattle.sqlite_tables.specs.Tables.{IsKnown, IsSure, ReadsOnly, rows_of, tree_found};
 ghost use Rattle.sqlite_tables.specs.Refusing.{OnlyBy};
 
 use crate::faults::fault_of;
 use crate::fitting::is_of_shape;
-use crate::layouts::page_text;
-use crate::{SourceStore, page_of};
+use crate::{Shape, SourceStore, page_of};
 use fdw_api::interface::Fault;
 use med_value::Cause;
 use sqlite::{Connection, Error};
@@ -31,26 +29,26 @@ fn fault_of_text(error: Error) -> Fault
 /// Finds a remote table, which is refused where it is not there (HV00R): where its page text is not understood, or where the stored table
 /// is not of its shape. No two of its rows have one id. It changes nothing, also where it fails. It is so over a store that always returns
 /// what was written, and of each call by itself that is sure (`IsSure`).
-pub fn find_table<S: SourceStore>(conn: &mut Connection<S>, table: u64) -> Result<(), Fault>
+pub fn find_table<S: SourceStore>(conn: &mut Connection<S>, shape: &Shape) -> Result<(), Fault>
     requires idle { conn.old.in_transaction ≡ false }
-    requires known { S.honest ≡ true → ∥ IsKnown conn.old.schema (layout_at table) ∥₁ }
-    ensures once { S.honest ≡ true → IsDistinct nat_eq (map (λ r. r.id) (rows_of (state S.Store conn.old).now (layout_at table))) }
-    ensures found { S.honest ≡ true → OnOk result (tree_found (state S.Store conn.old).now.schema (layout_at table) ≢ None) }
-    ensures fits { OnOk result (is_of_shape (state S.Store conn.old).now.schema (layout_at table) ≡ true) }
+    requires known { S.honest ≡ true → ∥ IsKnown conn.old.schema shape.now ∥₁ }
+    ensures once { S.honest ≡ true → IsDistinct nat_eq (map (λ r. r.id) (rows_of (state S.Store conn.old).now shape.now)) }
+    ensures found { S.honest ≡ true → OnOk result (tree_found (state S.Store conn.old).now.schema shape.now ≢ None) }
+    ensures fits { OnOk result (is_of_shape (state S.Store conn.old).now.schema shape.now ≡ true) }
     ensures refused { IfErr result (OnlyBy (λ c. (c ≡ TableNotFound)
-        × (S.honest ≡ true → tree_found (state S.Store conn.old).now.schema (layout_at table) ≡ None))) }
+        × (S.honest ≡ true → tree_found (state S.Store conn.old).now.schema shape.now ≡ None))) }
     ensures same { S.honest ≡ true → (state S.Store conn.new).now ≡ (state S.Store conn.old).now }
-    ensures sure_once { IsSure (state S.Store conn.old) (state S.Store conn.new) (layout_at table)
-        → IsDistinct nat_eq (map (λ r. r.id) (rows_of (state S.Store conn.old).now (layout_at table))) }
-    ensures sure_found { IsCleanAfter (state S.Store conn.new) → ∥ IsKnown conn.old.schema (layout_at table) ∥₁
-        → OnOk result (tree_found (state S.Store conn.old).now.schema (layout_at table) ≢ None) }
-    ensures sure_refused { IfErr result (OnlyBy (λ _. IsCleanAfter (state S.Store conn.new) → ∥ IsKnown conn.old.schema (layout_at table) ∥₁
-        → tree_found (state S.Store conn.old).now.schema (layout_at table) ≡ None)) }
-    ensures reads { ReadsOnly (state S.Store conn.old) (state S.Store conn.new) (layout_at table) }
+    ensures sure_once { IsSure (state S.Store conn.old) (state S.Store conn.new) shape.now
+        → IsDistinct nat_eq (map (λ r. r.id) (rows_of (state S.Store conn.old).now shape.now)) }
+    ensures sure_found { IsCleanAfter (state S.Store conn.new) → ∥ IsKnown conn.old.schema shape.now ∥₁
+        → OnOk result (tree_found (state S.Store conn.old).now.schema shape.now ≢ None) }
+    ensures sure_refused { IfErr result (OnlyBy (λ _. IsCleanAfter (state S.Store conn.new) → ∥ IsKnown conn.old.schema shape.now ∥₁
+        → tree_found (state S.Store conn.old).now.schema shape.now ≡ None)) }
+    ensures reads { ReadsOnly (state S.Store conn.old) (state S.Store conn.new) shape.now }
     ensures idle { conn.new.in_transaction ≡ false }
 {
-    let fits = is_of_shape(conn.schema(), table);
-    match page_of(conn, page_text(table), 1, 0) {
+    let fits = is_of_shape(conn.schema(), shape);
+    match page_of(conn, shape.page_text(), 1, 0) {
         Ok(_page) if fits => Ok(()),
         Ok(_page) => Err(Fault::Refused(Cause::TableNotFound)),
         Err(error) => Err(fault_of_text(error)),

@@ -67,7 +67,7 @@ module _ (honest : Bool) (db after : Database) (bound : List Bool) (scans : BTre
   as_new marks_now count d = sqlite_state honest d marks_now scans staged next pulled count
 
   pub sqlite_binds : (t : ℕ) → t < length bound → nat_lt t layout_count ≡ true → CanBind old remote columns settings → place_of remote ≡ Some t → types_match (kinds_in (layout_at t)) (kinds_of columns) ≡ true
-      → (honest ≡ true → causes_of columns db t ≡ []) → (honest ≡ true → IsDistinct nat_eq (map (λ r. r.id) (rows_of db (layout_at t))))
+      → (honest ≡ true → causes_of columns db (layout_at t) ≡ []) → (honest ≡ true → IsDistinct nat_eq (map (λ r. r.id) (rows_of db (layout_at t))))
       → Binds old remote columns settings t (as_new (slice_set bound t true) faults after)
   sqlite_binds t lt within can place typed none once =
       let name = (place_named remote t place).0 in
@@ -107,14 +107,14 @@ module _ (honest : Bool) (db after : Database) (bound : List Bool) (scans : BTre
         (record { coming = λ q l o. refl; rows = λ u o. refl; holdings = λ r o. refl });
   }
 
-  by_cause : (t : ℕ) (fault : Fault) → place_of remote ≡ Some t → OnlyBy (λ c. (is_late (phase_of c) ≡ true) × (honest ≡ true → IsLeast (causes_of columns db t) c)) fault
+  by_cause : (t : ℕ) (fault : Fault) → place_of remote ≡ Some t → OnlyBy (λ c. (is_late (phase_of c) ≡ true) × (honest ≡ true → IsLeast (causes_of columns db (layout_at t)) c)) fault
       → BindCause old remote columns settings fault
   by_cause t NoMemory place h = tt
   by_cause t Source place h = tt
   by_cause t (Refused c) place h = (h.0, λ honest_is. (entry_of db (layout_at t), sym (ap (entry_at db) place), h.1 honest_is))
 
   -- a table that does not open refuses the bind
-  pub sqlite_refuses : (t : ℕ) (fault : Fault) → place_of remote ≡ Some t → OnlyBy (λ c. (is_late (phase_of c) ≡ true) × (honest ≡ true → IsLeast (causes_of columns db t) c)) fault
+  pub sqlite_refuses : (t : ℕ) (fault : Fault) → place_of remote ≡ Some t → OnlyBy (λ c. (is_late (phase_of c) ≡ true) × (honest ≡ true → IsLeast (causes_of columns db (layout_at t)) c)) fault
       → RefusesBind old remote columns settings fault (as_new bound (faults_after fault faults) after)
   sqlite_refuses t fault place by = record { refuses = refused fault; cause = by_cause t fault place by }
 

@@ -14,7 +14,7 @@ use Rattle.fdw_api.specs.declared.interface.Fault.{Fault}
 use Rattle.fdw_api.specs.declared.interface.Fault.TheVariants.{NoMemory, Source, Refused}
 use Rattle.wrapper_parts.specs.Staged.{change_is, write_is}
 use Rattle.wrapper_parts.specs.declared.changes.StagedWrite.{StagedWrite}
-use Rattle.sqlite_tables.specs.Prelude.{rows_in, Layout, kinds_in, layout_at, layout_count, place_of, is_of_shape, OnlyBy, IsKnown, entries_at, entries_in, entries_of, entry_of, rows_of, tree_found, tree_of, IsLookup}
+use Rattle.sqlite_tables.specs.Prelude.{rows_in, Layout, kinds_in, layout_at, layout_count, place_of, is_of_shape, OnlyBy, IsKnown, entries_at, entries_of, entry_of, rows_of, tree_found, tree_of, IsLookup}
 use Rattle.sqlite_writes.specs.Kinds.{write_causes}
 use Rattle.sqlite_writes.specs.Writable.{AreApart}
 use Rattle.sqlite_wrapper.specs.Boxes.{allows, asked_of, bound_of, entry_at, given_of, held_in, marked_bound, rows_at, scan_is, scan_rows, sqlite_state, to_come}
@@ -108,9 +108,9 @@ module _ (honest : Bool) (db after : Database) (bound : List Bool) (scans : BTre
   no_scan : (q : ℕ) (s : KeyScan) → tree.get nat_cmp scans q ≡ Some s → s.table ≢ t
   no_scan q s e = subst (λ (z : Staging). s.table ≢ z.table) same (can.no_scan refl q (scan_is s) (mapped_get scan_is scans q ∙ ap (option_map scan_is) e))
 
-  module _ (made : Rewrites db after t changes) (apart : AreApart db.schema) (known : (u : ℕ) → ∥ IsKnown db.schema (layout_at u) ∥₁) (allowed : Allowed scans) where
-    others : (u : ℕ) → nat_lt u layout_count ≡ true → u ≢ t → entries_in after u ≡ entries_in db u
-    others u p ne = made.others u (known u) (differ db.schema t u apart made.there within p ne)
+  module _ (made : Rewrites db after (layout_at t) changes) (apart : AreApart db.schema) (known : (u : ℕ) → ∥ IsKnown db.schema (layout_at u) ∥₁) (allowed : Allowed scans) where
+    others : (u : ℕ) → nat_lt u layout_count ≡ true → u ≢ t → entries_of after (layout_at u) ≡ entries_of db (layout_at u)
+    others u p ne = made.others (layout_at u) (known u) (differ db.schema t u apart made.there within p ne)
 
     -- the lookups of live scans are of tables that did not change
     pub looks_closed : AllLook db scans → AllLook after scans
@@ -166,7 +166,7 @@ module _ (honest : Bool) (db after : Database) (bound : List Bool) (scans : BTre
       };
     }
 
-  pub sqlite_closes : (honest ≡ true → Rewrites db after t changes) → (honest ≡ true → AreApart db.schema) → ((u : ℕ) → honest ≡ true → ∥ IsKnown db.schema (layout_at u) ∥₁)
+  pub sqlite_closes : (honest ≡ true → Rewrites db after (layout_at t) changes) → (honest ≡ true → AreApart db.schema) → ((u : ℕ) → honest ≡ true → ∥ IsKnown db.schema (layout_at u) ∥₁)
       → Allowed scans → Closes old true (sqlite_state honest after bound scans None next pulled faults)
   sqlite_closes made apart known allowed = record {
     nature = refl;

@@ -11,7 +11,7 @@ use Rattle.std.proofs.lemmas.Option.{same_Some}
 use Rattle.sqlite.specs.Effect.{Database}
 use Rattle.sqlite.specs.Order.{Row as SqlRow}
 use Rattle.sqlite.specs.Schema.{Schema}
-use Rattle.sqlite_tables.specs.Prelude.{range_of, key_of, layout_at, key_in, IsKnown, behind, entries_of}
+use Rattle.sqlite_tables.specs.Prelude.{range_of, key_of, Layout, layout_at, key_in, IsKnown, behind, entries_of}
 use Rattle.fdw_api.specs.Prelude.{Spec, GivenRow, first_of, shown_fits, Scan, BoxState, LeavesOthers, Breaks, GivesRow, GivesNone, bumped, faults_after, not_refused, row_of}
 use Rattle.fdw_api.specs.declared.interface.Fault.{Fault}
 use Rattle.med_value.specs.Datum.{tuple}
@@ -27,13 +27,13 @@ use Rattle.sqlite_wrapper.proofs.Rising.{first_none, first_spent, first_more}
 use Rattle.sqlite_tables.proofs.PagesJoin.{between}
 
 -- a table that is read and written by its texts, where it is there, is read by its page text
-pub known_by : (schema : Schema) (t : ℕ) → IsWritable schema t → IsKnown schema (layout_at t)
-known_by schema t (inl absent) = inl absent.page
-known_by schema t (inr w) = inr (w.0, w.1.page)
+pub known_by : (schema : Schema) (l : Layout) → IsWritable schema l → IsKnown schema l
+known_by schema l (inl absent) = inl absent.page
+known_by schema l (inr w) = inr (w.0, w.1.page)
 
 -- each layout is known
-pub known_at : (honest : Bool) (schema : Schema) (t : ℕ) → ((u : ℕ) → honest ≡ true → ∥ IsWritable schema u ∥₁) → honest ≡ true → ∥ IsKnown schema (layout_at t) ∥₁
-known_at honest schema t writable h = ∥∥₁_map (writable t h) (known_by schema t)
+pub known_at : (honest : Bool) (schema : Schema) (t : ℕ) → ((u : ℕ) → honest ≡ true → ∥ IsWritable schema (layout_at u) ∥₁) → honest ≡ true → ∥ IsKnown schema (layout_at t) ∥₁
+known_at honest schema t writable h = ∥∥₁_map (writable t h) (known_by schema (layout_at t))
 
 -- `passed`, by whether a greater key may come
 abbrev passing : KeyScan → ℤ → Bool → KeyScan

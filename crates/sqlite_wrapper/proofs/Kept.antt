@@ -2,7 +2,7 @@
 use Rattle.std.proofs.Common.{◌≡◌, ℕ, ◌<◌, Bool, true, List, Option, Some, None, IsSome, length, nat_lt, refl, sym, subst, arith}
 use Rattle.sqlite.specs.Effect.{Database}
 use Rattle.fdw_api.specs.State.{Staging}
-use Rattle.sqlite_tables.specs.Layouts.{layout_count}
+use Rattle.sqlite_tables.specs.Layouts.{layout_at, layout_count}
 use Rattle.sqlite_writes.specs.Writable.{AreApart, IsWritable}
 use Rattle.sqlite_wrapper.specs.Changes.{names_rows}
 use Rattle.sqlite_wrapper.specs.Counts.{AreCounts}
@@ -15,9 +15,9 @@ pub some_there : {A : Type 0} (o : Option A) (x : A) → o ≡ Some x → IsSome
 some_there None x e = absurd cc
 some_there (Some y) x e = refl
 
-pub writable_after : (honest : Bool) (db after : Database) → (honest ≡ true → after ≡ db) → ((t : ℕ) → honest ≡ true → ∥ IsWritable db.schema t ∥₁)
-    → (t : ℕ) → honest ≡ true → ∥ IsWritable after.schema t ∥₁
-writable_after honest db after same writable t h = subst (λ (d : Database). ∥ IsWritable d.schema t ∥₁) (sym (same h)) (writable t h)
+pub writable_after : (honest : Bool) (db after : Database) → (honest ≡ true → after ≡ db) → ((t : ℕ) → honest ≡ true → ∥ IsWritable db.schema (layout_at t) ∥₁)
+    → (t : ℕ) → honest ≡ true → ∥ IsWritable after.schema (layout_at t) ∥₁
+writable_after honest db after same writable t h = subst (λ (d : Database). ∥ IsWritable d.schema (layout_at t) ∥₁) (sym (same h)) (writable t h)
 
 pub apart_after : (honest : Bool) (db after : Database) → (honest ≡ true → after ≡ db) → (honest ≡ true → AreApart db.schema) → honest ≡ true → AreApart after.schema
 apart_after honest db after same apart h = subst (λ (d : Database). AreApart d.schema) (sym (same h)) (apart h)

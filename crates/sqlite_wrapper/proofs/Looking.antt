@@ -129,7 +129,7 @@ module _ (db : Database) (s : KeyScan) (begun : IsBegun s s.table (asked_of s) (
       range_same least (lowest s) greatest s.high k (sym (open_lowest s.open s.low s.high least free.opened free.from)) (sym free.to)
       ∙ begun_keys true [] None db s s.table (asked_of s) params begun allowed k rest fits
 
-  filled : (n : KeyScan) → IsFilled es s n → IsComing (rows_of db l) (asked_of s) params (scan_rows db (Some n))
+  filled : (n : KeyScan) → IsFilled l es s n → IsComing (rows_of db l) (asked_of s) params (scan_rows db (Some n))
   filled n f =
       let free = f.looks.free in
       let page = n.page.items in
@@ -142,14 +142,14 @@ module _ (db : Database) (s : KeyScan) (begun : IsBegun s s.table (asked_of s) (
       ∙ ap (λ (xs : List SqlRow). map (given_of (asked_of s) l) xs) (append-nil (drop s.at page) ∙ ap (λ (k : ℕ). drop k page) start) in
       subst (IsComing (rows_of db l) (asked_of s) params) (sym (ap (λ (z : KeyScan). scan_rows db (Some z)) f.is ∙ rows)) comes
 
-  answered : (n : KeyScan) → (n ≡ record s { lookup = n.lookup }) ⊎ IsFilled es s n → IsComing (rows_of db l) (asked_of s) params (scan_rows db (Some n))
+  answered : (n : KeyScan) → (n ≡ record s { lookup = n.lookup }) ⊎ IsFilled l es s n → IsComing (rows_of db l) (asked_of s) params (scan_rows db (Some n))
   answered n (inl e) =
       subst (λ (z : KeyScan). IsComing (rows_of db l) (asked_of s) params (scan_rows db (Some z))) (sym e)
       (begun_coming true [] None db s s.table (asked_of s) params begun allowed shaped)
   answered n (inr f) = filled n f
 
 pub answered_coming : (db : Database) (s n : KeyScan) (t : ℕ) (spec : Spec) (params : Tuple) → IsBegun s t spec params → allows spec ≡ true → IsShaped shape.Table (entries_of db (layout_at s.table))
-    → (n ≡ record s { lookup = n.lookup }) ⊎ IsFilled (entries_of db (layout_at s.table)) s n → IsComing (rows_of db (layout_at t)) spec params (scan_rows db (Some n))
+    → (n ≡ record s { lookup = n.lookup }) ⊎ IsFilled (layout_at s.table) (entries_of db (layout_at s.table)) s n → IsComing (rows_of db (layout_at t)) spec params (scan_rows db (Some n))
 answered_coming db s n t spec params begun allowed shaped rows =
     let may = subst (λ (z : Spec). allows z ≡ true) (sym begun.new.spec_is) allowed in
     let w = answered db s (own s t spec params begun) may shaped n rows in
@@ -185,41 +185,41 @@ had_looks db s n None looks e table = tt
 had_looks db s n (Some x) looks e table = subst (λ (t : ℕ). IsLookup (layout_at t) (entries_of db (layout_at t)) x) (sym table) (looks x (sym e))
 
 -- a scan that looks for nothing
-pub unanswered : (honest : Bool) (es : List SqlRow) (s n : KeyScan) (had : Option Lookup) → n ≡ record s { lookup = had } → (honest ≡ true → IfSome had (IsLookup (layout_at s.table) es))
-    → IsAnswered honest es s n
-unanswered honest es s n had is looks =
+pub unanswered : (honest : Bool) (l : Layout) (es : List SqlRow) (s n : KeyScan) (had : Option Lookup) → n ≡ record s { lookup = had } → (honest ≡ true → IfSome had (IsLookup l es))
+    → IsAnswered honest l es s n
+unanswered honest l es s n had is looks =
     let lookup : n.lookup ≡ had = ap (λ (z : KeyScan). z.lookup) is in
     record {
       shows = ap scan_is is;
-      looks = λ h x e. if_some had (IsLookup (layout_at s.table) es) x (sym lookup ∙ e) (looks h);
+      looks = λ h x e. if_some had (IsLookup l es) x (sym lookup ∙ e) (looks h);
       rows = λ h. inl (is ∙ ap (λ (o : Option Lookup). record s { lookup = o }) (sym lookup));
     }
 
 -- a scan that looks for a value, of which rows were found or were too many
-pub looked_up : {V : Type 0} (found : Option V) (items : V → List SqlRow) (honest : Bool) (es : List SqlRow) (s n : KeyScan) (x : Lookup) (form : SoughtForm) (v : Datum) → LooksFor s form
-    → scan_is n ≡ scan_is s → n.lookup ≡ Some x → (honest ≡ true → IsLookup (layout_at s.table) es x) → x.column ≡ form.column → v ≡ cell (map datum s.params.items) form.parameter
+pub looked_up : {V : Type 0} (found : Option V) (items : V → List SqlRow) (honest : Bool) (l : Layout) (es : List SqlRow) (s n : KeyScan) (x : Lookup) (form : SoughtForm) (v : Datum) → LooksFor s form
+    → scan_is n ≡ scan_is s → n.lookup ≡ Some x → (honest ≡ true → IsLookup l es x) → x.column ≡ form.column → v ≡ cell (map datum s.params.items) form.parameter
     → IfNone found (n ≡ record s { lookup = n.lookup })
     → IfSome found (λ p. (n ≡ record s { page = n.page; full = false; lookup = n.lookup }) × (n.page.items ≡ items p))
-    → (honest ≡ true → IfSome found (λ p. map (row_in (layout_at s.table)) (items p) ≡ rows_with (layout_at s.table) x.column v es)) → IsAnswered honest es s n
-looked_up None items honest es s n x form v for shows lookup is column v_is none some page = record {
+    → (honest ≡ true → IfSome found (λ p. map (row_in l) (items p) ≡ rows_with l x.column v es)) → IsAnswered honest l es s n
+looked_up None items honest l es s n x form v for shows lookup is column v_is none some page = record {
   shows = shows;
-  looks = λ h y e. subst (IsLookup (layout_at s.table) es) (lookups_same x y (sym lookup ∙ e)) (is h);
+  looks = λ h y e. subst (IsLookup l es) (lookups_same x y (sym lookup ∙ e)) (is h);
   rows = λ h. inl none;
 }
-looked_up (Some p) items honest es s n x form v for shows lookup is column v_is none some page = record {
+looked_up (Some p) items honest l es s n x form v for shows lookup is column v_is none some page = record {
   shows = shows;
-  looks = λ h y e. subst (IsLookup (layout_at s.table) es) (lookups_same x y (sym lookup ∙ e)) (is h);
+  looks = λ h y e. subst (IsLookup l es) (lookups_same x y (sym lookup ∙ e)) (is h);
   rows = λ h. inr (record {
     form = form;
     looks = for;
     is = some.0;
     page_is =
-        ap (map (row_in (layout_at s.table))) some.1 ∙ page h ∙ ap (λ (c : ℕ). rows_with (layout_at s.table) c v es) column
-        ∙ ap (λ (d : Datum). rows_with (layout_at s.table) form.column d es) v_is;
+        ap (map (row_in l)) some.1 ∙ page h ∙ ap (λ (c : ℕ). rows_with l c v es) column
+        ∙ ap (λ (d : Datum). rows_with l form.column d es) v_is;
   });
 }
 
 -- the lookup of a scan that was answered is of its table
-pub answer_looks : (honest : Bool) (db : Database) (s n : KeyScan) → honest ≡ true → IsAnswered honest (entries_of db (layout_at s.table)) s n → Looks db n
+pub answer_looks : (honest : Bool) (db : Database) (s n : KeyScan) → honest ≡ true → IsAnswered honest (layout_at s.table) (entries_of db (layout_at s.table)) s n → Looks db n
 answer_looks honest db s n h a x e =
     subst (λ (t : ℕ). IsLookup (layout_at t) (entries_of db (layout_at t)) x) (sym (ap (λ (z : Scan). z.table) a.shows)) (a.looks h x e)

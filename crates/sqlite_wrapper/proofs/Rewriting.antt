@@ -9,7 +9,7 @@ use Rattle.med_value.specs.declared.cause.Cause.{Cause}
 use Rattle.med_value.specs.declared.cause.Cause.TheVariants.{NotNull, NotUnique, TooLarge}
 use Rattle.fdw_api.specs.Prelude.{Change, Held, held, TableRow, rows_after}
 use Rattle.sqlite.specs.Order.{Row as SqlRow}
-use Rattle.sqlite_tables.specs.Prelude.{layout_at, rows_in, rows_of, entries_in, tree_found, OnlyBy}
+use Rattle.sqlite_tables.specs.Prelude.{Layout, rows_in, rows_of, entries_of, tree_found, OnlyBy}
 use Rattle.sqlite_writes.specs.Kinds.{in_key_order, order_permutes, key_cell, lacks_key, no_line, repeats, with_cause, write_causes}
 use Rattle.fdw_api.specs.declared.interface.Fault.{Fault}
 use Rattle.fdw_api.specs.declared.interface.Fault.TheVariants.{NoMemory, Source, Refused}
@@ -37,15 +37,15 @@ third_cause false false = (0, omega arith, refl)
 pub keyless : (rows : List TableRow) (changes : List Change) → list_any lacks_key changes ≡ true → Contains (write_causes rows changes) NotNull
 keyless rows changes e = rw e (first_cause (repeats (map key_cell (rows_after no_line rows changes))) (nat_lt 1000000 (length (rows_after no_line rows changes))))
 
-module _ (old : Database) (t : ℕ) (changes : List Change) where
+module _ (old : Database) (l : Layout) (changes : List Change) where
   abbrev rows : List TableRow
-  rows = rows_of old (layout_at t)
+  rows = rows_of old l
 
   abbrev after : List Held
   after = rows_after no_line rows changes
 
   abbrev entries : List SqlRow
-  entries = entries_in old t
+  entries = entries_of old l
 
   -- more rows than a table may have
   pub too_many : (count fresh gone : ℕ) → count ≡ length rows → fresh ≡ length (rows_come changes) → gone ≡ length (keys_gone changes)
@@ -62,21 +62,21 @@ module _ (old : Database) (t : ℕ) (changes : List Change) where
   repeated law e = rw (sym law ∙ e) (second_cause (list_any lacks_key changes) (nat_lt 1000000 (length after)))
 
   -- exactly the changes are made
-  pub rewrites : (new : Database) (count fresh gone : ℕ) → new.schema ≡ old.schema → tree_found old.schema (layout_at t) ≢ None
-      → entries_in new t ≡ rewritten (keys_gone changes) (rows_come changes) entries → KeepsTables old new t
+  pub rewrites : (new : Database) (count fresh gone : ℕ) → new.schema ≡ old.schema → tree_found old.schema l ≢ None
+      → entries_of new l ≡ rewritten (keys_gone changes) (rows_come changes) entries → KeepsTables old new l
       → list_any lacks_key changes ≡ false → repeats_key (keys_gone changes) (rows_come changes) entries ≡ false
       → count ≡ length rows → fresh ≡ length (rows_come changes) → gone ≡ length (keys_gone changes) → count + fresh ≤ 1000000 + gone
       → length after + length (keys_gone changes) ≡ length rows + length (rows_come changes)
       → repeats_key (keys_gone changes) (rows_come changes) entries ≡ repeats (map key_cell after)
-      → map held (rows_in (layout_at t) (rewritten (keys_gone changes) (rows_come changes) entries)) ≡ in_key_order after
-      → IsDistinct nat_eq (map (λ (r : TableRow). r.id) (rows_in (layout_at t) (rewritten (keys_gone changes) (rows_come changes) entries)))
-      → Rewrites old new t changes
+      → map held (rows_in l (rewritten (keys_gone changes) (rows_come changes) entries)) ≡ in_key_order after
+      → IsDistinct nat_eq (map (λ (r : TableRow). r.id) (rows_in l (rewritten (keys_gone changes) (rows_come changes) entries)))
+      → Rewrites old new l changes
   rewrites new count fresh gone schema there is others keyed free count_is fresh_is gone_is le count_law repeats_law rows_law once_law = record {
     schema = schema;
     there = there;
     no_cause = rw (keyed, sym repeats_law ∙ free, few) refl;
-    rows = ap (λ (es : List SqlRow). map held (rows_in (layout_at t) es)) is ∙ rows_law;
-    once = subst (λ (es : List SqlRow). IsDistinct nat_eq (map (λ (r : TableRow). r.id) (rows_in (layout_at t) es))) (sym is) once_law;
+    rows = ap (λ (es : List SqlRow). map held (rows_in l es)) is ∙ rows_law;
+    once = subst (λ (es : List SqlRow). IsDistinct nat_eq (map (λ (r : TableRow). r.id) (rows_in l es))) (sym is) once_law;
     others = others;
   }
     where
@@ -84,12 +84,12 @@ module _ (old : Database) (t : ℕ) (changes : List Change) where
       few = grind (arith, count_is, fresh_is, gone_is, count_law, le)
 
   -- so many rows stand in a table after its changes are made
-  pub rows_left : (new : Database) (count fresh gone left : ℕ) → Rewrites old new t changes
+  pub rows_left : (new : Database) (count fresh gone left : ℕ) → Rewrites old new l changes
       → count ≡ length rows → fresh ≡ length (rows_come changes) → gone ≡ length (keys_gone changes) → left ≡ count + fresh - gone
-      → length after + length (keys_gone changes) ≡ length rows + length (rows_come changes) → left ≡ length (rows_of new (layout_at t))
+      → length after + length (keys_gone changes) ≡ length rows + length (rows_come changes) → left ≡ length (rows_of new l)
   rows_left new count fresh gone left made count_is fresh_is gone_is left_is law =
-      let all : length (rows_of new (layout_at t)) ≡ length after =
-      sym (length-map (rows_of new (layout_at t)) held) ∙ ap length made.rows ∙ length_permutation after (in_key_order after) (order_permutes after) in
+      let all : length (rows_of new l) ≡ length after =
+      sym (length-map (rows_of new l) held) ∙ ap length made.rows ∙ length_permutation after (in_key_order after) (order_permutes after) in
       grind (arith, all, count_is, fresh_is, gone_is, left_is, law)
 
 -- ---- by what a call came to

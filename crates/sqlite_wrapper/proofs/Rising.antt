@@ -1,5 +1,5 @@
 -- The rows of a table stand in the order of their keys, and the first so many of them come.
-use Rattle.std.proofs.Common.{◌≡◌, ℕ, ℤ, ◌+◌, ◌-◌, ◌<ℤ◌, Bool, true, false, not, ◌&&◌, nat_eq, List, [], ◌∷◌, map, filter, take, Option, Some, None, option_map, zero, suc, IsTrue, IsSorted, refl, ap, sym, arith}
+use Rattle.std.proofs.Common.{◌≡◌, ℕ, ℤ, ◌+◌, ◌-◌, ◌<ℤ◌, Bool, true, false, not, nat_eq, List, [], ◌∷◌, map, filter, take, Option, Some, None, option_map, zero, suc, IsTrue, IsSorted, refl, ap, sym, arith}
 use Rattle.std.proofs.lemmas.Int.{ints}
 use Rattle.std.specs.declared.cmp.Ordering.{Ordering}
 use Rattle.std.specs.declared.cmp.Ordering.TheVariants.{Less, Equal, Greater}

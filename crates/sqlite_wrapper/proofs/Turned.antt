@@ -5,7 +5,7 @@ use Rattle.sqlite.specs.Order.{Row as SqlRow}
 use Rattle.sqlite.specs.Effect.{Database}
 use Rattle.sqlite_wrapper.specs.declared.scans.KeyScan.{KeyScan}
 use Rattle.sqlite_wrapper.specs.declared.scans.PageWanted.{PageWanted}
-use Rattle.sqlite_tables.specs.Prelude.{layout_at, range_of, behind, entries_of, entries_in, rest_of}
+use Rattle.sqlite_tables.specs.Prelude.{Layout, layout_at, range_of, behind, entries_of, rest_of}
 use Rattle.sqlite_wrapper.specs.Boxes.{to_come}
 use Rattle.sqlite_wrapper.specs.Pages.{is_spent, wanted_by, Turns}
 
@@ -48,11 +48,11 @@ pub record IsTurned (s n : KeyScan) (items : List SqlRow) : Type 0 where
   pub high : n.high ≡ s.high
   pub open_is : n.«open» ≡ s.«open»
 
-pub turned_rows : (db : Database) (t : ℕ) (low high : ℤ) (s n : KeyScan) (items : List SqlRow) → IsTurned s n items → t ≡ s.table → low ≡ s.low → high ≡ s.high
+pub turned_rows : (db : Database) (l : Layout) (low high : ℤ) (s n : KeyScan) (items : List SqlRow) → IsTurned s n items → l ≡ layout_at s.table → low ≡ s.low → high ≡ s.high
     → length s.page.items ≤ s.at → s.full ≡ true → s.«open» ≡ true
-    → range_of low high (entries_in db t) ≡ items ++ rest_of low high (entries_in db t) items
+    → range_of low high (entries_of db l) ≡ items ++ rest_of low high (entries_of db l) items
     → to_come (entries_of db (layout_at s.table)) n ≡ to_come (entries_of db (layout_at s.table)) s
-turned_rows db t low high s n items turned et el eh past full opened joins =
+turned_rows db l low high s n items turned et el eh past full opened joins =
     let es = entries_of db (layout_at s.table) in
     let j : range_of s.low s.high es ≡ items ++ rest_of s.low s.high es items = rw (et, el, eh) at joins in
     rw (turned.page, turned.at_start, turned.full, turned.low, turned.high, turned.open_is)

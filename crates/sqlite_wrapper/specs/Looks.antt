@@ -8,7 +8,7 @@ use Rattle.sqlite.specs.Order.{Row as SqlRow}
 use Rattle.med_value.specs.Datum.{datum, cell}
 use Rattle.fdw_api.specs.Scan.{spec_of}
 use Rattle.wrapper_parts.specs.Scans.{SoughtForm, sought}
-use Rattle.sqlite_tables.specs.Prelude.{layout_at, row_in, least, greatest, entries_of, IsLookup, rows_with}
+use Rattle.sqlite_tables.specs.Prelude.{Layout, layout_at, row_in, least, greatest, entries_of, IsLookup, rows_with}
 use Rattle.sqlite_tables.specs.declared.reading.Lookup.{Lookup}
 use Rattle.sqlite_wrapper.specs.declared.scans.KeyScan.{KeyScan}
 use Rattle.sqlite_wrapper.specs.Boxes.{scan_is}
@@ -33,16 +33,16 @@ pub record LooksFor (s : KeyScan) (form : SoughtForm) : Type 0 where
   pub is : sought (spec_of s.spec).offered ≡ Some form
   pub free : IsFree s
 
--- a scan that has just begun is given the rows that have what it looks for as its only page
-pub record IsFilled (entries : List SqlRow) (old new : KeyScan) : Type 0 where
+-- a scan that has just begun of a table of this layout is given the rows that have what it looks for as its only page
+pub record IsFilled (l : Layout) (entries : List SqlRow) (old new : KeyScan) : Type 0 where
   pub form : SoughtForm
   pub looks : LooksFor old form
   pub is : new ≡ record old { page = new.page; full = false; lookup = new.lookup }
-  pub page_is : map (row_in (layout_at old.table)) new.page.items
-      ≡ rows_with (layout_at old.table) form.column (cell (map datum old.params.items) form.parameter) entries
+  pub page_is : map (row_in l) new.page.items
+      ≡ rows_with l form.column (cell (map datum old.params.items) form.parameter) entries
 
--- a scan that has just begun, with a lookup of its table's rows: it is so filled, or else as it was
-pub record IsAnswered (honest : Bool) (entries : List SqlRow) (old new : KeyScan) : Type 0 where
+-- a scan that has just begun of a table of this layout, with a lookup of its rows: it is so filled, or else as it was
+pub record IsAnswered (honest : Bool) (l : Layout) (entries : List SqlRow) (old new : KeyScan) : Type 0 where
   pub shows : scan_is new ≡ scan_is old
-  pub looks : honest ≡ true → (x : Lookup) → new.lookup ≡ Some x → IsLookup (layout_at old.table) entries x
-  pub rows : honest ≡ true → (new ≡ record old { lookup = new.lookup }) ⊎ IsFilled entries old new
+  pub looks : honest ≡ true → (x : Lookup) → new.lookup ≡ Some x → IsLookup l entries x
+  pub rows : honest ≡ true → (new ≡ record old { lookup = new.lookup }) ⊎ IsFilled l entries old new

@@ -3,6 +3,7 @@
 
 mod counts;
 mod lookups;
+mod numbers;
 mod promises;
 mod rows;
 mod scans;

@@ -1,20 +1,21 @@
 //! The rows of live scans: pages are read, and rows given.
-ghost use Rattle.std.specs.Prelude.{◌≡◌, ◌⊎◌, true, false, Some, slice_get, IfOk, IfErr, IfSome, IsSome, OnOk, OnErr};
+ghost use Rattle.std.specs.Prelude.{◌≡◌, ◌⊎◌, true, false, Some, slice_get, nat_lt, IfOk, IfErr, IfSome, IsSome, OnOk, OnErr};
 ghost use Rattle.std.specs.Ordering.{nat_cmp};
 ghost use Rattle.std.specs.BTreeMap as tree;
 ghost use Rattle.fdw_api.specs.Calls.{faults_after, not_refused};
 ghost use Rattle.sqlite.specs.Held.{state};
 ghost use Rattle.sqlite_wrapper.specs.declared.scans.KeyScan.{KeyScan};
-ghost use Rattle.sqlite_tables.specs.Prelude.{layout_at, IsKnown, IsSure, ReadsOnly, entries_of};
+ghost use Rattle.sqlite_tables.specs.Prelude.{layout_at, layout_count, layouts, IsKnown, IsSure, ReadsOnly, entries_of};
 ghost use Rattle.sqlite_writes.specs.Watched.{Looks};
 ghost use Rattle.sqlite_wrapper.specs.Boxes.{Sets};
 ghost use Rattle.sqlite_wrapper.specs.Pages.{IsNext, IsStuck, Turns};
 
+use crate::numbers::shape_of;
 use crate::scans::{KeyScan, is_spent, page_wanted, turn_page};
 use fdw_api::interface::{Fault, RowId, SourceRow};
 use fdw_api::law::rows_are_typed;
 use sqlite::Connection;
-use sqlite_tables::{Keyed, Misread, SourceStore, key_and_cells, page_between};
+use sqlite_tables::{Keyed, Misread, Shape, SourceStore, key_and_cells, page_between};
 use sqlite_writes::Watch;
 use std::alloc::Global;
 use std::collections::BTreeMap;
@@ -47,7 +48,8 @@ fn fault_of_misread(misread: Misread) -> Fault
     }
 }
 
-fn given_next(alloc: Global, scan: &KeyScan) -> Result<Option<GivenNext>, Fault>
+fn given_next(alloc: Global, shape: &Shape, scan: &KeyScan) -> Result<Option<GivenNext>, Fault>
+    requires shape { shape.now ≡ layout_at scan.now.table }
     ensures ok { IfOk result (IsNext scan.now) }
     ensures err { IfErr result not_refused }
     ensures source { IfErr result (λ f. f ≡ Fault.Source → IsStuck scan.now) }
@@ -58,7 +60,7 @@ fn given_next(alloc: Global, scan: &KeyScan) -> Result<Option<GivenNext>, Fault>
     if scan.page.len() <= scan.at {
         return Ok(None);
     }
-    let Keyed { key, cells } = match key_and_cells(alloc, scan.table, &scan.page[scan.at]) {
+    let Keyed { key, cells } = match key_and_cells(alloc, shape, &scan.page[scan.at]) {
         Ok(read) => read,
         Err(misread) => return Err(fault_of_misread(misread)),
     };
@@ -83,17 +85,20 @@ fn given_next(alloc: Global, scan: &KeyScan) -> Result<Option<GivenNext>, Fault>
 /// The next row of the page of a live scan.
 pub(crate) fn next_of(
     alloc: Global,
+    shapes: &[Shape],
     scans: &BTreeMap<u64, KeyScan>,
     number: u64,
 ) -> Result<Option<GivenNext>, Fault>
-    requires { IsSome (tree.get nat_cmp scans.now number) }
+    requires shapes { shapes.now ≡ layouts }
+    requires within { IfSome (tree.get nat_cmp scans.now number) (λ s. nat_lt s.table layout_count ≡ true) }
+    requires there { IsSome (tree.get nat_cmp scans.now number) }
     ensures ok { IfOk result (λ next. IfSome (tree.get nat_cmp scans.now number) (λ s. IsNext s next)) }
     ensures err { IfErr result not_refused }
     ensures source { IfErr result (λ f. f ≡ Fault.Source → IfSome (tree.get nat_cmp scans.now number) IsStuck) }
 {
     match scans.get(&number) {
         None => unreachable!(),
-        Some(scan) => given_next(alloc, scan),
+        Some(scan) => given_next(alloc, shape_of(shapes, scan.table), scan),
     }
 }
 
@@ -102,9 +107,12 @@ pub(crate) fn next_of(
 pub(crate) fn read_page<S: SourceStore>(
     conn: &mut Connection<S>,
     watch: &mut Watch,
+    shapes: &[Shape],
     scans: &mut BTreeMap<u64, KeyScan>,
     number: u64,
 ) -> Result<(), Fault>
+    requires shapes { shapes.now ≡ layouts }
+    requires within { IfSome (tree.get nat_cmp scans.old number) (λ s. nat_lt s.table layout_count ≡ true) }
     requires there { IsSome (tree.get nat_cmp scans.old number) }
     requires idle { conn.old.in_transaction ≡ false }
     requires known { S.honest ≡ true → IfSome (tree.get nat_cmp scans.old number) (λ s. ∥ IsKnown conn.old.schema (layout_at s.table) ∥₁) }
@@ -125,7 +133,8 @@ pub(crate) fn read_page<S: SourceStore>(
         return Ok(());
     };
     watch.look()?;
-    match page_between(conn, wanted.table, wanted.low, wanted.high) {
+    let shape = shape_of(shapes, wanted.table);
+    match page_between(conn, shape, wanted.low, wanted.high) {
         Err(fault) => Err(fault),
         Ok(page) => {
             turn_page(scans, number, page);

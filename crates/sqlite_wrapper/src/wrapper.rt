@@ -7,7 +7,7 @@ ghost use Rattle.med_value.specs.Datum.{datum};
 ghost use Rattle.fdw_api.specs.Scan.{params_fit, restriction_form, spec_of};
 ghost use Rattle.wrapper_parts.specs.Ranges.{answer_of};
 ghost use Rattle.sqlite_wrapper.specs.declared.scans.KeyScan.{KeyScan};
-ghost use Rattle.sqlite_tables.specs.Layouts.{kinds_in, layout_at, layout_count};
+ghost use Rattle.sqlite_tables.specs.Layouts.{kinds_in, layout_at, layout_count, layouts};
 ghost use Rattle.wrapper_parts.specs.Staged.{write_is};
 ghost use Rattle.sqlite_wrapper.specs.Changes.{NamesOnce, named_is_prop, names_rows, write_fits};
 ghost use Rattle.sqlite_writes.specs.Writable.{AreApart, IsWritable};
@@ -18,6 +18,7 @@ ghost use Rattle.sqlite_wrapper.specs.Boxes.{allows, is_allowed, is_by_key, prom
 
 use crate::counts::{count_of, forget_count, put_count};
 use crate::lookups::{look_up, take_lookup};
+use crate::numbers::{number_of, table_rises};
 use crate::promises::{all_exact, is_by_key, promised_limit, promised_order};
 use crate::rows::{GivenNext, faults_after, next_of, read_page};
 use crate::scans::{KeyScan, begun_again, new_scan, pass_row, put_scan, spoil};
@@ -28,9 +29,9 @@ use fdw_api::scan::{Agreement, Restriction, ScanSpec, copy_values};
 use fdw_api::wishes::{Agreement2, OrderKey, ScanSpec2, Wish, Wrapper2};
 use med_value::{Cause, ColumnDef, NoMemory, Row, TableNo, Value};
 use sqlite::Connection;
-use sqlite_tables::{SourceStore, layout_count, place_of};
+use sqlite_tables::{Shape, SourceStore, shipped_shapes};
+use sqlite_writes::Watch;
 use sqlite_writes::law::first_changes_name_once;
-use sqlite_writes::{Watch, entries_rise};
 use std::alloc::Global;
 use std::collections::BTreeMap;
 use wrapper_parts::{RowChange, StagedWrite, add_change, answers_for};
@@ -48,6 +49,8 @@ pub struct SqliteWrapper<S: SourceStore + Drop> {
     conn: Connection<S>,
     /// What looks whether the files of the database are still those that were opened.
     watch: Watch,
+    /// The shapes of its remote tables: the number of a table is the place of its shape.
+    shapes: Vec<Shape>,
     bound: Vec<bool>,
     /// The number of rows of each table, where it is known.
     row_counts: Vec<Option<usize>>,
@@ -56,9 +59,10 @@ pub struct SqliteWrapper<S: SourceStore + Drop> {
     next: u64,
     pulled: u64,
     faults: u64,
+    ghost shaped: { shapes.items ≡ layouts },
     ghost counted: { length bound.items ≡ layout_count },
     ghost idle: { conn.in_transaction ≡ false },
-    ghost writable: { (table : ℕ) → S.honest ≡ true → ∥ IsWritable conn.schema table ∥₁ },
+    ghost writable: { (table : ℕ) → S.honest ≡ true → ∥ IsWritable conn.schema (layout_at table) ∥₁ },
     ghost apart: { S.honest ≡ true → AreApart conn.schema },
     ghost named: { NamesOnce (option_map write_is staged) } by { named_is_prop (option_map write_is staged) },
     ghost there: { S.honest ≡ true → names_rows (state S.Store conn).now (option_map write_is staged) ≡ true },
@@ -85,18 +89,20 @@ impl<S: SourceStore + Drop> SqliteWrapper<S> {
     /// then.
     pub fn new(alloc: Global, conn: Connection<S>, watch: Watch) -> Result<Self, NoMemory>
         requires idle { conn.in_transaction ≡ false }
-        requires writable { (table : ℕ) → S.honest ≡ true → ∥ IsWritable conn.schema table ∥₁ }
+        requires writable { (table : ℕ) → S.honest ≡ true → ∥ IsWritable conn.schema (layout_at table) ∥₁ }
         requires apart { S.honest ≡ true → AreApart conn.schema }
         ensures conn { IfOk result (λ w. w.conn ≡ conn) }
         ensures watch { IfOk result (λ w. w.watch ≡ watch) }
         ensures new { IfOk result (λ w. IsNewSqlite S.honest (state S.Store conn).now
             (sqlite_state S.honest (state S.Store w.conn).now w.bound.items w.scans w.staged w.next w.pulled w.faults)) }
     {
-        let bound = vec![in alloc; false; layout_count() as usize]?;
-        let row_counts = vec![in alloc; None; layout_count() as usize]?;
+        let shapes = shipped_shapes(alloc)?;
+        let bound = vec![in alloc; false; shapes.len()]?;
+        let row_counts = vec![in alloc; None; shapes.len()]?;
         Ok(SqliteWrapper {
             conn,
             watch,
+            shapes,
             bound,
             row_counts,
             scans: BTreeMap::new(alloc),
@@ -146,7 +152,7 @@ impl<S: SourceStore + Drop> SqliteWrapper<S> {
         }
         let spec = spec.copy(alloc)?;
         let params = copy_values(alloc, params)?;
-        entries_rise(&self.conn, t.number);
+        table_rises(&self.conn, &self.shapes, t.number);
         let _schema = self.conn.schema();
         let scan = new_scan(alloc, t.number, spec, order, limit, params);
         let number = self.next;
@@ -200,11 +206,17 @@ impl<S: SourceStore + Drop> Wrapper for SqliteWrapper<S> {
         ensures looked { (self.new.conn ≡ self.old.conn) ⊎ Looks self.old.watch self.new.watch true }
         ensures seen { OnOk result (Looks self.old.watch self.new.watch true) }
     {
-        let Some(number) = place_of(remote) else {
+        let Some(number) = number_of(&self.shapes, remote) else {
             return Err(Fault::Refused(Cause::TableNotFound));
         };
         let _schema = self.conn.schema();
-        let count = match open_table(&mut self.conn, &mut self.watch, number, columns) {
+        let count = match open_table(
+            &mut self.conn,
+            &mut self.watch,
+            &self.shapes,
+            number,
+            columns,
+        ) {
             Ok(count) => count,
             Err(fault) => {
                 self.faults = faults_after(self.faults, fault);
@@ -308,12 +320,18 @@ impl<S: SourceStore + Drop> Wrapper for SqliteWrapper<S> {
     {
         let number = ticket.number;
         let _schema = self.conn.schema();
-        if let Err(fault) = read_page(&mut self.conn, &mut self.watch, &mut self.scans, number) {
+        if let Err(fault) = read_page(
+            &mut self.conn,
+            &mut self.watch,
+            &self.shapes,
+            &mut self.scans,
+            number,
+        ) {
             spoil(&mut self.scans, number);
             self.faults = faults_after(self.faults, fault);
             return Err(fault);
         }
-        match next_of(alloc, &self.scans, number) {
+        match next_of(alloc, &self.shapes, &self.scans, number) {
             Err(fault) => {
                 spoil(&mut self.scans, number);
                 self.faults = faults_after(self.faults, fault);
@@ -366,9 +384,16 @@ impl<S: SourceStore + Drop> Wrapper for SqliteWrapper<S> {
                 Err(Fault::NoMemory)
             }
             Ok(scan) => {
-                entries_rise(&self.conn, scan.table);
+                table_rises(&self.conn, &self.shapes, scan.table);
                 let had = take_lookup(&mut self.scans, ticket.number);
-                match look_up(alloc, &mut self.conn, &mut self.watch, scan, had) {
+                match look_up(
+                    alloc,
+                    &mut self.conn,
+                    &mut self.watch,
+                    &self.shapes,
+                    scan,
+                    had,
+                ) {
                     Err(fault) => {
                         spoil(&mut self.scans, ticket.number);
                         self.faults = faults_after(self.faults, fault);
@@ -455,6 +480,7 @@ impl<S: SourceStore + Drop> Wrapper for SqliteWrapper<S> {
             alloc,
             &mut self.conn,
             &mut self.watch,
+            &self.shapes,
             table,
             held,
             write.changes,

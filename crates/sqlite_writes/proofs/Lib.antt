@@ -4,6 +4,7 @@ pub mod Deleting
 pub mod Inserting
 pub mod Changed
 pub mod Loops
+pub mod Reaching
 pub mod Sorting
 pub mod Repeats
 pub mod Edits
@@ -11,6 +12,7 @@ pub mod Woven
 pub mod ChangesShown
 pub mod Rewritten
 pub mod Named
+pub mod Placed
 pub mod Splits
 pub mod Making
 pub mod Standing

@@ -178,8 +178,8 @@ pub known : (schema : Schema) (t : ℕ) → schema ≡ both_tables → ∥ IsKno
 known schema t is = subst (λ s. ∥ IsKnown s (layout_at t) ∥₁) (sym is) ∣ inr ((texts_at t).0, (texts_at t).1.page) ∣₁
 
 -- all three texts of each table are understood
-pub writable : (schema : Schema) (t : ℕ) → schema ≡ both_tables → ∥ IsWritable schema t ∥₁
-writable schema t is = subst (λ s. ∥ IsWritable s t ∥₁) (sym is) ∣ inr (texts_at t) ∣₁
+pub writable : (schema : Schema) (t : ℕ) → schema ≡ both_tables → ∥ IsWritable schema (layout_at t) ∥₁
+writable schema t is = subst (λ s. ∥ IsWritable s (layout_at t) ∥₁) (sym is) ∣ inr (texts_at t) ∣₁
 
 abbrev get_or_zero : Option ℕ → ℕ
 get_or_zero None = 0

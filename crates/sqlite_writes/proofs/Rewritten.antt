@@ -1,5 +1,5 @@
 -- A table after changes, as its entries are rewritten: the rows after the changes, in the order of their keys.
-use Rattle.std.proofs.Common.{◌≡◌, ℕ, ℤ, ◌+◌, Bool, true, false, not, ◌&&◌, List, [], ◌∷◌, ◌++◌, map, filter, nat_eq, length, IsTrue, refl, sym, ap, ap₂, ◌∙◌, subst, arith, IsPermutation}
+use Rattle.std.proofs.Common.{◌≡◌, ℤ, ◌+◌, Bool, true, false, not, ◌&&◌, List, [], ◌∷◌, ◌++◌, map, filter, nat_eq, length, IsTrue, refl, sym, ap, ap₂, ◌∙◌, subst, arith, IsPermutation}
 use Rattle.std.specs.declared.cmp.Ordering.TheVariants.{Less}
 use Rattle.std.specs.Ordering.{is_lt, is_ge, is_le, int_cmp}
 use Rattle.std.specs.List.{AllByRecursion, IsDistinct}
@@ -13,7 +13,7 @@ use Rattle.sqlite.specs.Tree.{rowid, IsTable}
 use Rattle.sqlite.specs.View.{IsShaped, is_int}
 use Rattle.sqlite_trees.specs.declared.store.Shape.TheVariants as shape
 use Rattle.sqlite_trees.proofs.ListLemmas.{all-filter, ascending-filter, filter_all, map-map, IsPermutation-filter}
-use Rattle.sqlite_tables.specs.Prelude.{in_range, key_of, paged, Layout, layout_at, row_in, rows_in, least, greatest}
+use Rattle.sqlite_tables.specs.Prelude.{in_range, key_of, paged, Layout, row_in, rows_in, least, greatest}
 use Rattle.sqlite_tables.proofs.Unique.{Rises}
 use Rattle.med_value.specs.Datum.{Tuple}
 use Rattle.fdw_api.specs.Prelude.{TableRow, held, Change, rows_after}
@@ -43,10 +43,7 @@ sees_keys e r same at =
     let is : key_of r ≡ key_of e = int_cmp-IsAntisymmetric (key_of r) (key_of e) (equal_is _ same) in
     subst (λ k. (is_ge (int_cmp k least) && is_le (int_cmp k greatest)) ≡ true) is at
 
-module _ (t : ℕ) (entries : List SqlRow) (changes : List Change) (are : AreChanges t entries changes) where
-  abbrev l : Layout
-  l = layout_at t
-
+module _ (l : Layout) (entries : List SqlRow) (changes : List Change) (are : AreChanges l entries changes) where
   abbrev gone : List ℤ
   gone = keys_gone changes
 

@@ -1,5 +1,5 @@
 -- A step of the loop that splits changes.
-use Rattle.std.proofs.Common.{◌≡◌, ℕ, ℤ, Bool, true, false, not, ◌&&◌, ◌||◌, List, [], ◌∷◌, ◌++◌, map, Some, slice_get, All, FitsSigned, w64, string_bytes, refl, sym, ap, ◌∙◌, arith, append_assoc}
+use Rattle.std.proofs.Common.{◌≡◌, ℤ, Bool, true, false, not, ◌&&◌, ◌||◌, List, [], ◌∷◌, ◌++◌, map, Some, slice_get, All, FitsSigned, w64, string_bytes, refl, sym, ap, ◌∙◌, arith, append_assoc}
 use Rattle.std.specs.List.{list_all, list_any}
 use Rattle.std.specs.Ordering.{is_ge, is_le, int_cmp}
 use Rattle.std.proofs.lemmas.Bool.{and_parts, and_from}
@@ -12,7 +12,7 @@ use Rattle.med_value.specs.declared.value.Value.{Value}
 use Rattle.med_value.specs.declared.value.Value.TheVariants.{Null, Int, Text, Bool as Truth}
 use Rattle.med_value.specs.declared.value.Row.{Row}
 use Rattle.fdw_api.specs.Prelude.{row_fits, Change, row_of_change_fits}
-use Rattle.sqlite_tables.specs.Prelude.{kinds_in, layout_at, least, greatest}
+use Rattle.sqlite_tables.specs.Prelude.{Layout, kinds_in, least, greatest}
 use Rattle.sqlite_writes.specs.Rewriting.{has_place}
 use Rattle.sqlite_writes.specs.Kinds.{lacks_key}
 use Rattle.sqlite_writes.specs.Splitting.{id_of_change, row_of_change, ids_named, keys_gone, rows_come, key_for, is_key, is_readable, is_holdable}
@@ -55,9 +55,9 @@ fresh_on done more c cs ds all i is m =
 pub one_pushed : (done more : List Row) (r : Row) (x : Tuple) → more ≡ done ++ r ∷ [] → tuple r ≡ x → map tuple more ≡ map tuple done ++ x ∷ []
 one_pushed done more r x m is = ap (map tuple) m ∙ map-append tuple done (r ∷ []) ∙ ap (λ (t : Tuple). map tuple done ++ t ∷ []) is
 
-pub fit_on : (t : ℕ) (c : Change) (cs ds : List Change) → list_all (row_of_change_fits (kinds_in (layout_at t))) cs ≡ true → cs ≡ c ∷ ds
-    → (row_of_change_fits (kinds_in (layout_at t)) c ≡ true) × (list_all (row_of_change_fits (kinds_in (layout_at t))) ds ≡ true)
-fit_on t c cs ds all is = and_parts _ _ (ap (list_all (row_of_change_fits (kinds_in (layout_at t)))) (sym is) ∙ all)
+pub fit_on : (l : Layout) (c : Change) (cs ds : List Change) → list_all (row_of_change_fits (kinds_in l)) cs ≡ true → cs ≡ c ∷ ds
+    → (row_of_change_fits (kinds_in l) c ≡ true) × (list_all (row_of_change_fits (kinds_in l)) ds ≡ true)
+fit_on l c cs ds all is = and_parts _ _ (ap (list_all (row_of_change_fits (kinds_in l))) (sym is) ∙ all)
 
 pub keyed_on : (b : Bool) (c : Change) (cs ds : List Change) → b ≡ list_any lacks_key cs → cs ≡ c ∷ ds → lacks_key c ≡ false → b ≡ list_any lacks_key ds
 keyed_on b c cs ds i is one = i ∙ ap (list_any lacks_key) is ∙ ap (λ x. x || list_any lacks_key ds) one
@@ -70,24 +70,24 @@ all_on p xs ys x all is one = ap (list_all p) is ∙ go xs all
     go (y ∷ ys) h = let parts = and_parts _ _ h in and_from _ _ parts.0 (go ys parts.1)
 
 -- a row with a key is one that no change lacks the key of
-pub has_its_key : (t : ℕ) (x : Tuple) → has_place t x ≡ true → is_missing (cell x 0) ≡ false
-has_its_key t x h = unnot (is_missing (cell x 0)) (and_parts _ _ h).1
+pub has_its_key : (l : Layout) (x : Tuple) → has_place l x ≡ true → is_missing (cell x 0) ≡ false
+has_its_key l x h = unnot (is_missing (cell x 0)) (and_parts _ _ h).1
   where
     unnot : (b : Bool) → not b ≡ true → b ≡ false
     unnot true e = absurd cc
     unnot false e = refl
 
 -- what is true of each tuple is true of each row
-pub each_row : (t : ℕ) (rows : List Row) → list_all (has_place t) (map tuple rows) ≡ true → All (λ r. has_place t (tuple r) ≡ true) rows
-each_row t [] h = All-nil (λ (r : Row). has_place t (tuple r) ≡ true)
-each_row t (r ∷ rows) h = let parts = and_parts _ _ h in All-cons (λ (q : Row). has_place t (tuple q) ≡ true) r rows parts.0 (each_row t rows parts.1)
+pub each_row : (l : Layout) (rows : List Row) → list_all (has_place l) (map tuple rows) ≡ true → All (λ r. has_place l (tuple r) ≡ true) rows
+each_row l [] h = All-nil (λ (r : Row). has_place l (tuple r) ≡ true)
+each_row l (r ∷ rows) h = let parts = and_parts _ _ h in All-cons (λ (q : Row). has_place l (tuple q) ≡ true) r rows parts.0 (each_row l rows parts.1)
 
 pub lacks : (cs : List Change) (c : Change) (ds : List Change) (b : Bool) → b ≡ list_any lacks_key cs → cs ≡ c ∷ ds → lacks_key c ≡ true → b ≡ true
 lacks cs c ds b i is one = i ∙ ap (list_any lacks_key) is ∙ ap (λ x. x || list_any lacks_key ds) one
 
 -- a row of a table's types of which it was found that it has a key, or has none
-pub place_by : (t : ℕ) (x : Tuple) (found : Bool) → row_fits (kinds_in (layout_at t)) x ≡ true → found ≡ not (is_missing (cell x 0)) → found ≡ true → has_place t x ≡ true
-place_by t x found fits is has = and_from _ _ fits (sym is ∙ has)
+pub place_by : (l : Layout) (x : Tuple) (found : Bool) → row_fits (kinds_in l) x ≡ true → found ≡ not (is_missing (cell x 0)) → found ≡ true → has_place l x ≡ true
+place_by l x found fits is has = and_from _ _ fits (sym is ∙ has)
 
 pub missing_by : (x : Tuple) (found : Bool) → found ≡ not (is_missing (cell x 0)) → found ≡ false → is_missing (cell x 0) ≡ true
 missing_by x found is lacking = unnot (is_missing (cell x 0)) (sym is ∙ lacking)

@@ -2,6 +2,7 @@ pub mod Writable
 pub mod Stored
 pub mod Changes
 pub mod Rewriting
+pub mod Failing
 pub mod Kinds
 pub mod Splitting
 pub mod Found

@@ -1,15 +1,15 @@
 -- Many rows of a table changed at once: the old ones taken out, then the new ones put in.
-use Rattle.std.specs.Prelude.{ℕ, ℤ, Bool, not, ◌&&◌, List, [], ◌∷◌, map}
+use Rattle.std.specs.Prelude.{ℤ, Bool, not, ◌&&◌, List, [], ◌∷◌, map}
 use Rattle.sqlite.specs.Order.{Row as SqlRow}
 use Rattle.sqlite.specs.Edit.{without_all, put_all, are_fresh}
 use Rattle.med_value.specs.Prelude.{Datum, Whole, Tuple, cell, is_missing}
 use Rattle.fdw_api.specs.Scan.{row_fits}
-use Rattle.sqlite_tables.specs.Layouts.{layout_at, kinds_in}
+use Rattle.sqlite_tables.specs.Layouts.{Layout, kinds_in}
 use Rattle.sqlite_writes.specs.Stored.{stored_row}
 
--- a row of a table by its number: of the types of its columns, with a key
-abbrev pub has_place : ℕ → Tuple → Bool
-has_place t cells = row_fits (kinds_in (layout_at t)) cells && not (is_missing (cell cells 0))
+-- a row of a table: of the types of its columns, with a key
+abbrev pub has_place : Layout → Tuple → Bool
+has_place l cells = row_fits (kinds_in l) cells && not (is_missing (cell cells 0))
 
 -- a row as its table holds it
 abbrev pub row_by : Datum → List Datum → SqlRow

@@ -12,7 +12,7 @@ use Rattle.med_value.specs.declared.cause.Cause.TheVariants.{NotNull}
 use Rattle.fdw_api.specs.Prelude.{Change, Inserts, Updates, Deletes, id_is_there}
 use Rattle.fdw_api.specs.declared.interface.Fault.{Fault}
 use Rattle.fdw_api.specs.declared.interface.Fault.TheVariants.{NoMemory, Source, Refused}
-use Rattle.sqlite_tables.specs.Prelude.{layout_at, rows_in, least, greatest}
+use Rattle.sqlite_tables.specs.Prelude.{Layout, rows_in, least, greatest}
 use Rattle.sqlite_writes.specs.Rewriting.{has_place}
 use Rattle.sqlite_writes.specs.Kinds.{lacks_key}
 
@@ -65,11 +65,11 @@ is_holdable cells = is_key (cell cells 0) && list_all is_readable cells
 
 -- changes of a table that holds these entries: they name rows that are there, each once, and each new row is of the table's types, with
 -- a key
-pub record AreChanges (t : ℕ) (entries : List SqlRow) (changes : List Change) : Type 0 where
+pub record AreChanges (l : Layout) (entries : List SqlRow) (changes : List Change) : Type 0 where
   pub ordered : IsShaped shape.Table entries
   pub once : IsNamedOnce changes
-  pub there : list_all (id_is_there (rows_in (layout_at t) entries)) changes ≡ true
-  pub placed : list_all (has_place t) (rows_come changes) ≡ true
+  pub there : list_all (id_is_there (rows_in l entries)) changes ≡ true
+  pub placed : list_all (has_place l) (rows_come changes) ≡ true
   pub holdable : list_all is_holdable (rows_come changes) ≡ true
 
 -- want of memory, or 23502, and then a change writes a row without a key

@@ -1,5 +1,5 @@
 -- Whether the files at the path of a database are still those that were opened.
-use Rattle.std.specs.Prelude.{◌≡◌, ℕ, ◌+◌, ◌%◌, ◌^◌, Bool, true, false, ◌&&◌, Option, Some, None, nat_eq}
+use Rattle.std.specs.Prelude.{◌≡◌, ◌+◌, ◌%◌, ◌^◌, Bool, true, false, ◌&&◌, Option, Some, None, nat_eq}
 use Rattle.sqlite_writes.specs.declared.watch.FileId.{FileId}
 use Rattle.sqlite_writes.specs.declared.watch.FilePair.{FilePair}
 use Rattle.sqlite_writes.specs.declared.watch.Place.{Place}

@@ -10,7 +10,6 @@ pub mod rows;
 pub mod split;
 mod statements;
 pub mod system;
-mod texts;
 pub mod watch;
 
 pub use files::{Databases, Opened, open_database};

@@ -42,7 +42,7 @@ fn make_people(conn: &mut Connection<MemStore>) -> Result<usize, Error>
 /// It is refused where the database refuses one of the two texts that make them, as for want of memory.
 pub fn memory_database(alloc: Global) -> Result<Connection<MemStore>, Error>
     ensures known { (table : ℕ) → IfOk result (λ conn. ∥ IsKnown conn.schema (layout_at table) ∥₁) }
-    ensures writable { (table : ℕ) → IfOk result (λ conn. ∥ IsWritable conn.schema table ∥₁) }
+    ensures writable { (table : ℕ) → IfOk result (λ conn. ∥ IsWritable conn.schema (layout_at table) ∥₁) }
     ensures apart { IfOk result (λ conn. AreApart conn.schema) }
     ensures tables { (table : ℕ) → IfOk result (λ conn. entry_of (state over_memory conn).now (layout_at table)
         ≡ Some (Stored (kinds_in (layout_at table)) [])) }

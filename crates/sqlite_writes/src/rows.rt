@@ -1,62 +1,75 @@
 //! Rows that are taken out of a table and put into one, inside a transaction.
-ghost use Rattle.std.specs.Prelude.{◌≡◌, true, false, Some, IsTrue, IfErr, OnOk};
+ghost use Rattle.std.specs.Prelude.{◌≡◌, true, false, Some, [], ◌∷◌, IsTrue, IfErr, OnOk};
+ghost use Rattle.sqlite.specs.declared.types.Value.TheVariants as sql;
 ghost use Rattle.sqlite.specs.Held.{state};
 ghost use Rattle.sqlite.specs.View.{IsShaped};
 ghost use Rattle.sqlite.specs.Tree.{without_rowid, put_row};
 ghost use Rattle.sqlite.specs.Edit.{is_taken};
-ghost use Rattle.sqlite_trees.specs.declared.store.Shape.TheVariants as shape;
+ghost use Rattle.sqlite_trees.specs.declared.store.Shape.TheVariants as stored;
 ghost use Rattle.med_value.specs.Datum.{datum};
 ghost use Rattle.med_value.specs.declared.cause.Cause.TheVariants.{NotUnique};
 ghost use Rattle.fdw_api.specs.Prelude.{not_refused, cell_fits};
-ghost use Rattle.sqlite_tables.specs.Prelude.{IsCleanAfter, layout_at, entries_in, OnlyBy};
+ghost use Rattle.sqlite_tables.specs.Prelude.{IsCleanAfter, entries_of, OnlyBy};
 ghost use Rattle.sqlite_writes.specs.Writable.{IsWritable, IsSureStep, KeepsTables, StepsTo};
+ghost use Rattle.sqlite_writes.specs.Failing.{GoesOn, IsFailureOf, IsReportedFailure};
 ghost use Rattle.sqlite_writes.specs.Stored.{IsFaultOf, IsReported, inserted_cells, stored_row, taken_key};
 
 use crate::statements::{delete, insert};
-use crate::texts::{delete_text, insert_text};
 use fdw_api::interface::Fault;
 use med_value::{Cause, Value};
 use sqlite::{Constraint, Error, ErrorCode, Transaction};
-use sqlite_tables::{SourceStore, fault_of};
+use sqlite_tables::{Shape, SourceStore, fault_of};
 
 /// Takes the row of a key out of a table, inside a transaction: where there is none, nothing changes.
 ///
-/// Refused, no cause is told, and what was committed last stays so. It is so over a store that always returns what was written, and of each
+/// Refused, no cause is reported: it fails as out of memory or as the source, as the error is that the connection reported
+/// (`IsReportedFailure`). What was committed last stays so. It is so over a store that always returns what was written, and of each
 /// call by itself that is sure (`IsSureStep`).
 pub fn delete_row<S: SourceStore>(
     tx: &mut Transaction<'_, S>,
-    table: u64,
+    shape: &Shape,
     key: i64,
 ) -> Result<(), Fault>
     requires inside { S.honest ≡ true → IsTrue tx.old.conn.now.in_transaction }
-    requires writable { S.honest ≡ true → ∥ IsWritable tx.old.conn.now.schema table ∥₁ }
-    requires ordered { S.honest ≡ true → IsShaped shape.Table (entries_in (state S.Store tx.old.conn.now).now table) }
+    requires writable { S.honest ≡ true → ∥ IsWritable tx.old.conn.now.schema shape.now ∥₁ }
+    requires ordered { S.honest ≡ true → IsShaped stored.Table (entries_of (state S.Store tx.old.conn.now).now shape.now) }
     ensures same_reference { tx.new.conn.ghost_name ≡ tx.old.conn.ghost_name }
-    ensures rows { S.honest ≡ true → OnOk result (entries_in (state S.Store tx.new.conn.now).now table
-        ≡ without_rowid key (entries_in (state S.Store tx.old.conn.now).now table)) }
-    ensures ordered { S.honest ≡ true → OnOk result (IsShaped shape.Table (entries_in (state S.Store tx.new.conn.now).now table)) }
+    ensures rows { S.honest ≡ true → OnOk result (entries_of (state S.Store tx.new.conn.now).now shape.now
+        ≡ without_rowid key (entries_of (state S.Store tx.old.conn.now).now shape.now)) }
+    ensures ordered { S.honest ≡ true → OnOk result (IsShaped stored.Table (entries_of (state S.Store tx.new.conn.now).now shape.now)) }
     ensures schema { S.honest ≡ true → OnOk result (tx.new.conn.now.schema ≡ tx.old.conn.now.schema) }
     ensures others { S.honest ≡ true →
-        OnOk result (KeepsTables (state S.Store tx.old.conn.now).now (state S.Store tx.new.conn.now).now table) }
+        OnOk result (KeepsTables (state S.Store tx.old.conn.now).now (state S.Store tx.new.conn.now).now shape.now) }
     ensures refused { IfErr result not_refused }
     ensures inside { S.honest ≡ true → OnOk result (IsTrue tx.new.conn.now.in_transaction) }
     ensures kept { S.honest ≡ true → (state S.Store tx.new.conn.now).committed ≡ (state S.Store tx.old.conn.now).committed }
-    ensures sure_rows { IsSureStep (state S.Store tx.old.conn.now) (state S.Store tx.new.conn.now) table
-        → OnOk result (entries_in (state S.Store tx.new.conn.now).now table
-        ≡ without_rowid key (entries_in (state S.Store tx.old.conn.now).now table)) }
-    ensures sure_steps { IsSureStep (state S.Store tx.old.conn.now) (state S.Store tx.new.conn.now) table
-        → OnOk result (StepsTo (state S.Store tx.old.conn.now) (state S.Store tx.new.conn.now) table) }
-    ensures sure_kept { IsSureStep (state S.Store tx.old.conn.now) (state S.Store tx.new.conn.now) table
+    ensures sure_rows { IsSureStep (state S.Store tx.old.conn.now) (state S.Store tx.new.conn.now) shape.now
+        → OnOk result (entries_of (state S.Store tx.new.conn.now).now shape.now
+        ≡ without_rowid key (entries_of (state S.Store tx.old.conn.now).now shape.now)) }
+    ensures sure_steps { IsSureStep (state S.Store tx.old.conn.now) (state S.Store tx.new.conn.now) shape.now
+        → OnOk result (StepsTo (state S.Store tx.old.conn.now) (state S.Store tx.new.conn.now) shape.now) }
+    ensures sure_kept { IsSureStep (state S.Store tx.old.conn.now) (state S.Store tx.new.conn.now) shape.now
         → (state S.Store tx.new.conn.now).committed ≡ (state S.Store tx.old.conn.now).committed }
     ensures was_clean { IsCleanAfter (state S.Store tx.new.conn.now) → IsCleanAfter (state S.Store tx.old.conn.now) }
+    ensures reported { IfErr result (IsReportedFailure shape.now.deleting (sql.Int key ∷ [])
+        (state S.Store tx.old.conn.now) (state S.Store tx.new.conn.now)) }
+    ensures goes_on { GoesOn (state S.Store tx.old.conn.now) (state S.Store tx.new.conn.now) }
 {
-    match delete(tx, delete_text(table), key) {
+    match delete(tx, shape.delete_text(), key) {
         Ok(()) => Ok(()),
-        Err(error) => Err(fault_of(error)),
+        Err(error) => Err(failure_of(error)),
     }
 }
 
-// What a refusal of an INSERT is to its caller: a repeated key (23505), want of memory, else a failure of the source.
+// What a refusal of a DELETE or of a COMMIT is to its caller: out of memory, else a failure of the source.
+pub(crate) fn failure_of(error: Error) -> Fault
+    ensures no_cause { not_refused result }
+    ensures is { IsFailureOf error result }
+{
+    fault_of(error)
+}
+
+// What a refusal of an INSERT is to its caller: a repeated key (23505), out of memory, else a failure of the source.
 fn fault_of_insert(error: Error) -> Fault
     ensures taken { error ≡ taken_key → result ≡ Fault.Refused NotUnique }
     ensures memory { error ≡ Error.SqliteFailure ErrorCode.OutOfMemory → result ≡ Fault.NoMemory }
@@ -72,52 +85,53 @@ fn fault_of_insert(error: Error) -> Fault
 
 /// Puts a row of a key and two further cells into a table, in its place by key, inside a transaction.
 ///
-/// Refused by 23505, the table has a row of this key; no other cause is told. It fails as the source where the connection reported an error
-/// that is neither a repeated key nor want of memory (`IsReported`). What was committed last stays so. It is so over a store that
+/// Refused by 23505, the table has a row of this key; no other cause is reported. It fails as the source where the connection reported an
+/// error that is neither a repeated key nor out of memory (`IsReported`). What was committed last stays so. It is so over a store that
 /// always returns what was written, and of each call by itself that is sure (`IsSureStep`).
 pub fn insert_row<'x, S: SourceStore>(
     tx: &mut Transaction<'_, S>,
-    table: u64,
+    shape: &Shape,
     key: i64,
     second: &'x Value,
     third: &'x Value,
 ) -> Result<(), Fault>
     requires inside { S.honest ≡ true → IsTrue tx.old.conn.now.in_transaction }
-    requires writable { S.honest ≡ true → ∥ IsWritable tx.old.conn.now.schema table ∥₁ }
-    requires ordered { S.honest ≡ true → IsShaped shape.Table (entries_in (state S.Store tx.old.conn.now).now table) }
-    requires second { cell_fits (Some (layout_at table).second) (datum second.now) ≡ true }
-    requires third { cell_fits (Some (layout_at table).third) (datum third.now) ≡ true }
+    requires writable { S.honest ≡ true → ∥ IsWritable tx.old.conn.now.schema shape.now ∥₁ }
+    requires ordered { S.honest ≡ true → IsShaped stored.Table (entries_of (state S.Store tx.old.conn.now).now shape.now) }
+    requires second { cell_fits (Some shape.now.second) (datum second.now) ≡ true }
+    requires third { cell_fits (Some shape.now.third) (datum third.now) ≡ true }
     ensures same_reference { tx.new.conn.ghost_name ≡ tx.old.conn.ghost_name }
-    ensures rows { S.honest ≡ true → OnOk result (entries_in (state S.Store tx.new.conn.now).now table
-        ≡ put_row (stored_row key (datum second.now) (datum third.now)) (entries_in (state S.Store tx.old.conn.now).now table)) }
-    ensures free { S.honest ≡ true → OnOk result (is_taken (entries_in (state S.Store tx.old.conn.now).now table)
+    ensures rows { S.honest ≡ true → OnOk result (entries_of (state S.Store tx.new.conn.now).now shape.now
+        ≡ put_row (stored_row key (datum second.now) (datum third.now)) (entries_of (state S.Store tx.old.conn.now).now shape.now)) }
+    ensures free { S.honest ≡ true → OnOk result (is_taken (entries_of (state S.Store tx.old.conn.now).now shape.now)
         (stored_row key (datum second.now) (datum third.now)) ≡ false) }
-    ensures ordered { S.honest ≡ true → OnOk result (IsShaped shape.Table (entries_in (state S.Store tx.new.conn.now).now table)) }
+    ensures ordered { S.honest ≡ true → OnOk result (IsShaped stored.Table (entries_of (state S.Store tx.new.conn.now).now shape.now)) }
     ensures schema { S.honest ≡ true → OnOk result (tx.new.conn.now.schema ≡ tx.old.conn.now.schema) }
     ensures others { S.honest ≡ true →
-        OnOk result (KeepsTables (state S.Store tx.old.conn.now).now (state S.Store tx.new.conn.now).now table) }
+        OnOk result (KeepsTables (state S.Store tx.old.conn.now).now (state S.Store tx.new.conn.now).now shape.now) }
     ensures refused { IfErr result (OnlyBy (λ c. (c ≡ NotUnique)
-        × (S.honest ≡ true → is_taken (entries_in (state S.Store tx.old.conn.now).now table)
+        × (S.honest ≡ true → is_taken (entries_of (state S.Store tx.old.conn.now).now shape.now)
         (stored_row key (datum second.now) (datum third.now)) ≡ true))) }
     ensures inside { S.honest ≡ true → OnOk result (IsTrue tx.new.conn.now.in_transaction) }
     ensures kept { S.honest ≡ true → (state S.Store tx.new.conn.now).committed ≡ (state S.Store tx.old.conn.now).committed }
-    ensures sure_rows { IsSureStep (state S.Store tx.old.conn.now) (state S.Store tx.new.conn.now) table
-        → OnOk result (entries_in (state S.Store tx.new.conn.now).now table
-        ≡ put_row (stored_row key (datum second.now) (datum third.now)) (entries_in (state S.Store tx.old.conn.now).now table)) }
-    ensures sure_free { IsSureStep (state S.Store tx.old.conn.now) (state S.Store tx.new.conn.now) table
-        → OnOk result (is_taken (entries_in (state S.Store tx.old.conn.now).now table)
+    ensures sure_rows { IsSureStep (state S.Store tx.old.conn.now) (state S.Store tx.new.conn.now) shape.now
+        → OnOk result (entries_of (state S.Store tx.new.conn.now).now shape.now
+        ≡ put_row (stored_row key (datum second.now) (datum third.now)) (entries_of (state S.Store tx.old.conn.now).now shape.now)) }
+    ensures sure_free { IsSureStep (state S.Store tx.old.conn.now) (state S.Store tx.new.conn.now) shape.now
+        → OnOk result (is_taken (entries_of (state S.Store tx.old.conn.now).now shape.now)
         (stored_row key (datum second.now) (datum third.now)) ≡ false) }
-    ensures sure_refused { IfErr result (OnlyBy (λ _. IsSureStep (state S.Store tx.old.conn.now) (state S.Store tx.new.conn.now) table
-        → is_taken (entries_in (state S.Store tx.old.conn.now).now table) (stored_row key (datum second.now) (datum third.now)) ≡ true)) }
-    ensures sure_steps { IsSureStep (state S.Store tx.old.conn.now) (state S.Store tx.new.conn.now) table
-        → OnOk result (StepsTo (state S.Store tx.old.conn.now) (state S.Store tx.new.conn.now) table) }
-    ensures sure_kept { IsSureStep (state S.Store tx.old.conn.now) (state S.Store tx.new.conn.now) table
+    ensures sure_refused { IfErr result (OnlyBy (λ _. IsSureStep (state S.Store tx.old.conn.now) (state S.Store tx.new.conn.now) shape.now
+        → is_taken (entries_of (state S.Store tx.old.conn.now).now shape.now) (stored_row key (datum second.now) (datum third.now)) ≡ true)) }
+    ensures sure_steps { IsSureStep (state S.Store tx.old.conn.now) (state S.Store tx.new.conn.now) shape.now
+        → OnOk result (StepsTo (state S.Store tx.old.conn.now) (state S.Store tx.new.conn.now) shape.now) }
+    ensures sure_kept { IsSureStep (state S.Store tx.old.conn.now) (state S.Store tx.new.conn.now) shape.now
         → (state S.Store tx.new.conn.now).committed ≡ (state S.Store tx.old.conn.now).committed }
-    ensures reported { IfErr result (IsReported (layout_at table).inserting (inserted_cells key (datum second.now) (datum third.now))
+    ensures reported { IfErr result (IsReported shape.now.inserting (inserted_cells key (datum second.now) (datum third.now))
         (state S.Store tx.old.conn.now) (state S.Store tx.new.conn.now)) }
     ensures was_clean { IsCleanAfter (state S.Store tx.new.conn.now) → IsCleanAfter (state S.Store tx.old.conn.now) }
+    ensures goes_on { GoesOn (state S.Store tx.old.conn.now) (state S.Store tx.new.conn.now) }
 {
-    match insert(tx, insert_text(table), key, second, third) {
+    match insert(tx, shape.insert_text(), key, second, third) {
         Ok(()) => Ok(()),
         Err(error) => Err(fault_of_insert(error)),
     }

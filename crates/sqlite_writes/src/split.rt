@@ -5,13 +5,14 @@ ghost use Rattle.med_value.specs.Prelude.{tuple, cell, is_missing};
 ghost use Rattle.med_value.specs.declared.cause.Cause.TheVariants.{NotNull};
 ghost use Rattle.fdw_api.specs.Prelude.{row_fits, row_of_change_fits};
 ghost use Rattle.wrapper_parts.specs.Staged.{change_is};
-ghost use Rattle.sqlite_tables.specs.Layouts.{kinds_in, layout_at};
+ghost use Rattle.sqlite_tables.specs.Layouts.{Layout, kinds_in};
 ghost use Rattle.sqlite_writes.specs.Rewriting.{has_place};
 ghost use Rattle.sqlite_writes.specs.Kinds.{lacks_key};
 ghost use Rattle.sqlite_writes.specs.Splitting.{keys_gone, rows_come, is_holdable, IsKeyless};
 
 use fdw_api::interface::Fault;
 use med_value::{Cause, Row, Value};
+use sqlite_tables::Shape;
 use std::alloc::Global;
 use wrapper_parts::RowChange;
 
@@ -24,7 +25,7 @@ pub struct Split {
 
 // Whether a row of a table has a key.
 fn has_key(row: &Row) -> bool
-    ensures has { (t : ℕ) → row_fits (kinds_in (layout_at t)) (tuple row.now) ≡ true
+    ensures has { (l : Layout) → row_fits (kinds_in l) (tuple row.now) ≡ true
         → result ≡ not (is_missing (cell (tuple row.now) 0)) }
     ensures holdable { result ≡ true → is_holdable (tuple row.now) ≡ true }
 {
@@ -40,11 +41,11 @@ fn has_key(row: &Row) -> bool
 // A row with a key; one without is refused by 23502.
 fn keyed(row: Row) -> Result<Row, Fault>
     ensures same { IfOk result (λ r. r ≡ row) }
-    ensures placed { (t : ℕ) → row_fits (kinds_in (layout_at t)) (tuple row) ≡ true
-        → IfOk result (λ r. has_place t (tuple row) ≡ true) }
+    ensures placed { (l : Layout) → row_fits (kinds_in l) (tuple row) ≡ true
+        → IfOk result (λ r. has_place l (tuple row) ≡ true) }
     ensures holdable { IfOk result (λ r. is_holdable (tuple row) ≡ true) }
     ensures err { IfErr result (λ fault. (fault ≡ Fault.Refused NotNull)
-        × ((t : ℕ) → row_fits (kinds_in (layout_at t)) (tuple row) ≡ true → is_missing (cell (tuple row) 0) ≡ true)) }
+        × ((l : Layout) → row_fits (kinds_in l) (tuple row) ≡ true → is_missing (cell (tuple row) 0) ≡ true)) }
 {
     if has_key(&row) {
         Ok(row)
@@ -57,12 +58,12 @@ fn keyed(row: Row) -> Result<Row, Fault>
 /// that come, which are the inserted ones and those in the place of updated ones.
 ///
 /// Each new row is of the table's types. Refused by 23502 where one has no key.
-pub fn split_changes(alloc: Global, table: u64, changes: Vec<RowChange>) -> Result<Split, Fault>
-    requires fits { list_all (row_of_change_fits (kinds_in (layout_at table))) (map change_is changes.items) ≡ true }
+pub fn split_changes(alloc: Global, shape: &Shape, changes: Vec<RowChange>) -> Result<Split, Fault>
+    requires fits { list_all (row_of_change_fits (kinds_in shape.now)) (map change_is changes.items) ≡ true }
     ensures gone { IfOk result (λ s. s.gone.items ≡ keys_gone (map change_is changes.items)) }
     ensures fresh { IfOk result (λ s. map tuple s.fresh.items ≡ rows_come (map change_is changes.items)) }
-    ensures placed { IfOk result (λ s. All (λ r. has_place table (tuple r) ≡ true) s.fresh.items) }
-    ensures each_placed { IfOk result (λ s. list_all (has_place table) (rows_come (map change_is changes.items)) ≡ true) }
+    ensures placed { IfOk result (λ s. All (λ r. has_place shape.now (tuple r) ≡ true) s.fresh.items) }
+    ensures each_placed { IfOk result (λ s. list_all (has_place shape.now) (rows_come (map change_is changes.items)) ≡ true) }
     ensures holdable { IfOk result (λ s. list_all is_holdable (rows_come (map change_is changes.items)) ≡ true) }
     ensures keyed { IfOk result (λ s. list_any lacks_key (map change_is changes.items) ≡ false) }
     ensures refused { IfErr result (IsKeyless (map change_is changes.items)) }

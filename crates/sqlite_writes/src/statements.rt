@@ -1,5 +1,6 @@
 //! One statement that changes a row, by its text, inside a transaction.
-ghost use Rattle.std.specs.Prelude.{◌≡◌, ℕ, true, IsTrue, IfErr, OnOk};
+ghost use Rattle.std.specs.Prelude.{◌≡◌, ℕ, true, [], ◌∷◌, IsTrue, IfErr, OnOk};
+ghost use Rattle.sqlite.specs.declared.types.Value.TheVariants as sql;
 ghost use Rattle.sqlite.specs.Held.{state};
 ghost use Rattle.sqlite.specs.View.{IsShaped};
 ghost use Rattle.sqlite.specs.Edit.{is_taken};
@@ -11,6 +12,7 @@ ghost use Rattle.fdw_api.specs.Scan.{cell_fits};
 ghost use Rattle.std.specs.Prelude.{Some};
 ghost use Rattle.sqlite_tables.specs.Prelude.{IsCleanAfter, IsDeleteText, IsInsertText, IsUnread};
 ghost use Rattle.sqlite_writes.specs.Changes.{TakesOut, PutsIn};
+ghost use Rattle.sqlite_writes.specs.Failing.{GoesOn};
 ghost use Rattle.sqlite_writes.specs.Stored.{Reports, inserted_cells, stored, stored_row, taken_key};
 
 use med_value::Value;
@@ -43,6 +45,9 @@ pub(crate) fn delete<S: SourceStore>(
     ensures sure_kept { IsCleanAfter (state S.Store tx.new.conn.now) → IsTrue tx.old.conn.now.in_transaction
         → (state S.Store tx.new.conn.now).committed ≡ (state S.Store tx.old.conn.now).committed }
     ensures was_clean { IsCleanAfter (state S.Store tx.new.conn.now) → IsCleanAfter (state S.Store tx.old.conn.now) }
+    ensures reported { IfErr result (Reports text.now (sql.Int key ∷ [])
+        (state S.Store tx.old.conn.now) (state S.Store tx.new.conn.now)) }
+    ensures goes_on { GoesOn (state S.Store tx.old.conn.now) (state S.Store tx.new.conn.now) }
 {
     match tx.execute(text, params![key]) {
         Ok(_count) => Ok(()),
@@ -107,6 +112,7 @@ pub(crate) fn insert<'x, S: SourceStore>(
     ensures reported { IfErr result (Reports text.now (inserted_cells key (datum second.now) (datum third.now))
         (state S.Store tx.old.conn.now) (state S.Store tx.new.conn.now)) }
     ensures was_clean { IsCleanAfter (state S.Store tx.new.conn.now) → IsCleanAfter (state S.Store tx.old.conn.now) }
+    ensures goes_on { GoesOn (state S.Store tx.old.conn.now) (state S.Store tx.new.conn.now) }
 {
     let second = cell_of(second);
     let third = cell_of(third);

@@ -118,7 +118,7 @@ impl Databases for HostRuntime {
         ensures known { (table : ℕ) → ⟦<FileStore<File> as SourceStore>⟧.honest ≡ true
             → IfOk result (λ o. ∥ IsKnown o.conn.schema (layout_at table) ∥₁) }
         ensures writable { (table : ℕ) → ⟦<FileStore<File> as SourceStore>⟧.honest ≡ true
-            → IfOk result (λ o. ∥ IsWritable o.conn.schema table ∥₁) }
+            → IfOk result (λ o. ∥ IsWritable o.conn.schema (layout_at table) ∥₁) }
         ensures apart { ⟦<FileStore<File> as SourceStore>⟧.honest ≡ true → IfOk result (λ o. AreApart o.conn.schema) }
         ensures idle { IfOk result (λ o. o.conn.in_transaction ≡ false) }
     {

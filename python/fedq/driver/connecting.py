@@ -2,21 +2,19 @@
 from __future__ import annotations
 
 import os
-import subprocess
-import sys
-import tempfile
 import warnings
-from typing import Dict, List, Optional, Sequence, Tuple, Union
+from typing import Dict, List, Optional, Sequence, Union
 
 from ..engine import Port, Program
 from ..errors import InterfaceError, ProgrammingError, Warning
+from ..terminal import printable
 from .connection import Connection, opened
 from .parameters import STYLES
 
 Path = Union[str, "os.PathLike[str]"]
 Sources = Optional[Dict[str, Path]]
 OWNER = "admin"
-SUMMARY = "fedq-setup: "
+NOTICE = "note: "
 
 
 def connect(csv: Sources = None, jsonl: Sources = None, sqlite: Sources = None, lists: Union[str, Sequence[str]] = (), *,
@@ -38,6 +36,9 @@ def connect(csv: Sources = None, jsonl: Sources = None, sqlite: Sources = None, 
     if paramstyle not in STYLES:
         raise InterfaceError(f"paramstyle is {' or '.join(STYLES)}, and not {paramstyle}")
     sources = {"csv": csv or {}, "jsonl": jsonl or {}, "sqlite": sqlite or {}}
+    for kind, named in sources.items():
+        if isinstance(named, (str, os.PathLike)):
+            raise InterfaceError(f"{kind}= takes a name for each source: {kind}={{'t': {os.fspath(named)!r}}}")
     lists = [lists] if isinstance(lists, str) else [*lists]
     if port is not None:
         if any(sources.values()) or lists or init is not None or owner or program or write:
@@ -49,7 +50,7 @@ def connect(csv: Sources = None, jsonl: Sources = None, sqlite: Sources = None, 
     elif init is not None:
         statements = [it.strip() for it in init if it.strip()]
     elif words:
-        statements = looked_at(sources, words, write)
+        statements = looked_at(sources, write)
     words += [it for name in lists for it in ("--list", name)] + (["--owner", owner] if owner else [])
     connection = Connection(Program(words, program and os.fspath(program)), user or owner or OWNER, paramstyle)
     return opened(connection, connection.user, owner or OWNER, statements)
@@ -60,49 +61,24 @@ def words_of(sources: Dict[str, Dict[str, Path]]) -> List[str]:
     return [it for kind, named in sources.items() for name, path in named.items() for it in (f"--{kind}", f"{name}={os.fspath(path)}")]
 
 
-def looked_at(sources: Dict[str, Dict[str, Path]], words: Sequence[str], write: bool) -> List[str]:
-    """The statements that `fedq-setup` writes for sources. Its messages become warnings. Fails with InterfaceError where a folder is
-    not there, and with ProgrammingError where it refuses the words."""
+def looked_at(sources: Dict[str, Dict[str, Path]], write: bool) -> List[str]:
+    """The statements that `fedq-setup` writes for sources. What it says of the files becomes warnings. Fails with InterfaceError where a
+    folder is not there, and with ProgrammingError where a source cannot be called so, or cannot be read."""
     for kind in ("csv", "jsonl"):
         for name, path in sources[kind].items():
+            if os.path.isfile(path):
+                raise InterfaceError(f"{os.fspath(path)} of {kind}={{'{name}': ..}} is a file: give the folder that it is in")
             if not os.path.isdir(path):
                 raise InterfaceError(f"the folder {os.fspath(path)} of {kind}={{'{name}': ..}} is not there")
-    statements, messages, status = set_up([*words, *(["--write"] if write else [])])
-    if status > 1:
-        raise ProgrammingError(f"{SUMMARY}{' '.join(messages).replace(SUMMARY, '')}")
-    for it in messages:
-        warnings.warn(it, Warning, stacklevel=4)
-    return statements
-
-
-def set_up(words: Sequence[str]) -> Tuple[List[str], List[str], int]:
-    """What `fedq-setup` does over these words: the statements that it writes, its messages, a line each, and its status."""
-    package = os.path.dirname(os.path.dirname(os.path.dirname(os.path.realpath(__file__))))
-    command, room = setup_command(package), dict(os.environ)
-    room["PYTHONPATH"] = os.pathsep.join([package, *filter(None, [room.get("PYTHONPATH")])])
-    with tempfile.TemporaryDirectory() as folder:
-        out = os.path.join(folder, "init.sql")
-        try:
-            words = [*command, *words, "--out", out]
-            done = subprocess.run(words, stdin=subprocess.DEVNULL, stdout=subprocess.PIPE, stderr=subprocess.PIPE, env=room)
-        except OSError as fault:
-            raise InterfaceError(f"cannot start {command[0]}: {fault.strerror}") from None
-        messages = [it for it in done.stderr.decode(errors="replace").splitlines() if it]
-        if not os.path.exists(out):
-            return [], messages, max(2, done.returncode)
-        with open(out, encoding="utf-8") as file:
-            return file.read().splitlines(), [it for it in messages if not it.startswith(SUMMARY)], done.returncode
-
-
-def setup_command(package: str) -> List[str]:
-    """How `fedq-setup` is started: what FEDQ_SETUP names, the room of this package, or the launcher of its clone. Fails with
-    InterfaceError where there is none."""
-    named = os.environ.get("FEDQ_SETUP")
-    if named:
-        return [named]
-    if os.path.exists(os.path.join(package, "fedq", "setup", "__main__.py")):
-        return [sys.executable, "-B", "-X", "utf8", "-m", "fedq.setup"]
-    launcher = os.path.join(os.path.dirname(package), "fedq-setup")
-    if os.access(launcher, os.X_OK):
-        return [launcher]
-    raise InterfaceError("no init= is given, and fedq-setup, which would write it, is not there: FEDQ_SETUP names it")
+    from ..setup.set_up import set_up, sources_of
+    try:
+        named = sources_of({kind: [f"{name}={os.fspath(path)}" for name, path in its.items()] for kind, its in sources.items()})
+        made = set_up(named, write)
+    except ValueError as fault:
+        raise ProgrammingError(str(fault)) from None
+    except OSError as fault:
+        raise ProgrammingError(f"{fault.filename}: {fault.strerror}") from None
+    for it in made.warnings:
+        if not it.startswith(NOTICE):
+            warnings.warn(printable(it), Warning, stacklevel=4)
+    return made.script

@@ -111,7 +111,7 @@ def put_table(put: Put, it: Object, servers: Dict[str, int], owner: str) -> None
 
 
 def put_columns(put: Put, it: Object) -> None:
-    for number, (name, kind, is_not_null) in enumerate(it.columns, 1):
+    for number, (name, kind, is_not_null, _) in enumerate(it.columns, 1):
         size, is_number = TYPES[OIDS[kind]][2], kind == "integer"
         put("pg_catalog.pg_attribute", attrelid=FIRST + it.number, attname=name, atttypid=OIDS[kind], attstattarget=-1, attlen=size,
             attnum=number, attndims=0,

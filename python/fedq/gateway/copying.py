@@ -2,6 +2,7 @@
 from typing import TYPE_CHECKING, List, NamedTuple, Sequence, Tuple
 
 from .. import sql
+from ..advice import advice
 from ..sql import Token
 from .messages import COPY_DONE, Refused, complete, copy_out, message
 from .output import FULL, names_in
@@ -89,9 +90,11 @@ async def copy_out_of(session: "Session", found: Sequence[Token]) -> None:
     """Runs one COPY .. TO STDOUT."""
     copy = read(found, session.database)
     output = CopyOutput(session, copy)
-    reply = await session.ask(sql.line(copy.query).encode(), output.take)
+    text = sql.line(copy.query)
+    reply = await session.ask(text.encode(), output.take)
     if reply.code:
-        raise refusal(reply.code, reply.name)
+        found = advice(reply.code, text, session.hub.objects.tables) if len(text) <= sql.MOST_KEPT_CHARACTERS else None
+        raise refusal(reply.code, reply.name, found._replace(begin=-1) if found else None)
     if output.is_cut:
         raise FULL
     if not output.width:

@@ -22,8 +22,8 @@ class Prepared:
     """A prepared statement: its tokens, and the types of its parameters; 0 where a type is not known yet. `pieces` are the parts of its
     line between parameters."""
 
-    def __init__(self, found: Sequence[Token], oids: Sequence[int], statements: Statements, database: str) -> None:
-        self.given, self.statements, self.database = found, statements, database
+    def __init__(self, found: Sequence[Token], oids: Sequence[int], statements: Statements, database: str, text: str = "") -> None:
+        self.given, self.statements, self.database, self.text = found, statements, database, text
         self.count = sql.count_of_parameters(found)
         if self.count > MOST_PARAMETERS:
             raise Refused("54000", f"a statement has at most {MOST_PARAMETERS:,} parameters here", "send the rows in parts")
@@ -58,6 +58,11 @@ class Prepared:
 
     def bound(self, literals: Sequence[str]) -> Optional[Statement]:
         """The statement with these literals in the places of its parameters."""
+        made = self.bound_anew(literals)
+        return made.of(self.text, 0) if made is not None else None
+
+    def bound_anew(self, literals: Sequence[str]) -> Optional[Statement]:
+        """As `bound`, without the client's text."""
         self.renew()
         if self.model is None or not literals:
             return self.model
@@ -124,7 +129,7 @@ class Extended(Session):
         if len(self.prepared) > MOST_KEPT:
             raise Refused("54000", f"a session keeps at most {MOST_KEPT:,} prepared statements", "DEALLOCATE ALL forgets them")
         self.quicks.pop(b"\0" + name.encode() + b"\0", None)
-        self.prepared[name] = Prepared(parts[0] if parts else (), oids, self.hub.statements, self.database)
+        self.prepared[name] = Prepared(parts[0] if parts else (), oids, self.hub.statements, self.database, text)
         self.outlet.add(PARSE_COMPLETE)
 
     async def bind(self, body: bytes) -> None:
@@ -221,7 +226,7 @@ class Extended(Session):
         if form.types is None and await self.types_of(statement) is None:
             reply = await self.ask(sql.line(sql.cores(statement.found)).encode() + b" LIMIT 0")
             if reply.code:
-                raise refusal(reply.code, reply.name)
+                raise refusal(reply.code, reply.name, self.advised(statement, reply.code))
             names = names_in(reply.header or b"")
             return row_description(names, [TEXT] * len(names), all_formats(formats, len(names)))
         return described_by(form.names, form.types, all_formats(formats, len(form.types)))

@@ -12,11 +12,11 @@ READY = {status: b"Z\0\0\0\5" + status for status in (b"I", b"T", b"E")}
 
 
 class Refused(Exception):
-    """What a client is refused: SQLSTATE, text, and a way out."""
+    """What a client is refused: SQLSTATE, text, a way out, what was found, and the place in the statement, from 1 on, or 0."""
 
-    def __init__(self, code: str, text: str, hint: str = "") -> None:
+    def __init__(self, code: str, text: str, hint: str = "", detail: str = "", position: int = 0) -> None:
         super().__init__(code, text)
-        self.code, self.text, self.hint = code, text, hint
+        self.code, self.text, self.hint, self.detail, self.position = code, text, hint, detail, position
 
 
 def message(kind: bytes, body: bytes = b"") -> bytes:
@@ -27,13 +27,15 @@ def c_string(text: str) -> bytes:
     return text.replace("\0", " ").encode("utf-8", "replace") + b"\0"
 
 
-def report(kind: bytes, severity: str, code: str, text: str, hint: str = "") -> bytes:
+def report(kind: bytes, severity: str, code: str, text: str, more: Sequence[Tuple[bytes, str]] = ()) -> bytes:
+    """A message about a statement. `more` are further fields; those without a text are left out."""
     fields = b"S" + c_string(severity) + b"V" + c_string(severity) + b"C" + c_string(code) + b"M" + c_string(text)
-    return message(kind, fields + (b"H" + c_string(hint) if hint else b"") + b"\0")
+    return message(kind, fields + b"".join(name + c_string(it) for name, it in more if it) + b"\0")
 
 
 def error(fault: Refused, severity: str = "ERROR") -> bytes:
-    return report(b"E", severity, fault.code, fault.text, fault.hint)
+    position = str(fault.position) if fault.position else ""
+    return report(b"E", severity, fault.code, fault.text, [(b"D", fault.detail), (b"H", fault.hint), (b"P", position)])
 
 
 def warning(code: str, text: str) -> bytes:

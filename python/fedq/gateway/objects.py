@@ -16,9 +16,11 @@ CREATE FOREIGN TABLE orders (no integer, part integer, n integer) SERVER {0} OPT
 
 
 class Column(NamedTuple):
+    """A column of a table. `member` is the member that a table of JSON lines reads, where it has another name."""
     name: str
     type: str
     is_not_null: bool
+    member: str = ""
 
 
 class Object(NamedTuple):
@@ -64,8 +66,8 @@ class Reader:
         if self.has("("):
             while self.at < len(self.found) and not self.has(")"):
                 name, type_name = self.next(), TYPES.get(self.next(), "text")
-                self.options()
-                made.append(Column(name, type_name, self.has("not", "null")))
+                member = self.options().get("member", "")
+                made.append(Column(name, type_name, self.has("not", "null"), member))
                 self.has("null")
                 self.has(",")
         return made
@@ -106,6 +108,13 @@ class Objects:
             self.known.setdefault(key, made)
         self.version += 1
         self.tables = {it.name: it for it in self.of_kind("table")}
+
+    def source_of(self, table_name: str) -> Tuple[str, str]:
+        """The kind and the name of the source of a table; nothing of what is not known."""
+        table = self.tables.get(table_name)
+        server = self.known.get(("server", table.of)) if table else None
+        wrapper = self.known.get(("wrapper", server.of)) if server else None
+        return (wrapper.of if wrapper else "", server.options.get("source", "") if server else "")
 
     def of_kind(self, kind: str) -> List[Object]:
         return [it for it in self.known.values() if it.kind == kind]

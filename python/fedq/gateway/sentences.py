@@ -1,6 +1,7 @@
 """What a client reads with a code of the program: a sentence, and a way out."""
-from typing import Dict, Tuple
+from typing import Dict, Optional, Tuple
 
+from ..advice import Advice
 from .messages import Refused
 
 NO_ANSWER = "whether the statement was done is not known: look before you ask again"
@@ -53,7 +54,10 @@ SENTENCES: Dict[str, Tuple[str, str]] = {
 }
 
 
-def refusal(code: str, name: str) -> Refused:
-    """Returns what a client reads for a code and its name."""
+def refusal(code: str, name: str, found: Optional[Advice] = None) -> Refused:
+    """Returns what a client reads for a code and its name, with the advice on its statement where there is some; a place before the text
+    is none."""
     text, hint = SENTENCES.get(code, (name.replace("_", " "), "docs/ERRORS.md says more"))
-    return Refused(code, text, hint)
+    if found is None:
+        return Refused(code, text, hint)
+    return Refused(code, text, found.hint or hint, found.detail, found.begin + 1)

@@ -2,7 +2,9 @@
 answered here."""
 from typing import TYPE_CHECKING, Dict, NamedTuple, Optional, Tuple
 
+from ..advice import Advice
 from ..sql import Token, Unsayable
+from .advising import advised
 from .catalogue import Answer, Asker
 from .copying import copy_out_of
 from .engine import Gone, Reply, Take, TooLong
@@ -117,10 +119,14 @@ class Session:
         reply = await self.ask(statement.line, output.take)
         if reply.code:
             self.lose(statement, reply.code)
-            raise refusal(reply.code, reply.name)
+            raise refusal(reply.code, reply.name, self.advised(statement, reply.code))
         if verb not in ("select", "fetch"):
             await self.note(verb, statement)
         output.end(reply.header, reply.tag)
+
+    def advised(self, statement: Statement, code: str) -> Optional[Advice]:
+        """What helps with a statement that the program refused."""
+        return advised(statement, code, self.database, self.hub.objects, self.engine.command)
 
     async def types_of(self, statement: Statement) -> Optional[Tuple[int, ...]]:
         """The types of a query's outputs; None where the program would refuse it."""

@@ -29,11 +29,18 @@ class Form:
 
 
 class Statement:
-    """One statement. `found` are its tokens, None where its form is known whole; `line` is its request's text."""
-    __slots__ = ("kind", "verb", "found", "line", "form")
+    """One statement. `found` are its tokens, None where its form is known whole; `line` is its request's text. `source` is the client's text,
+    and which of its statements this is, where that is kept."""
+    __slots__ = ("kind", "verb", "found", "line", "form", "source")
 
     def __init__(self, kind: str, verb: str, found: Optional[Sequence[Token]], line: bytes, form: Form) -> None:
         self.kind, self.verb, self.found, self.line, self.form = kind, verb, found, line, form
+        self.source: Optional[Tuple[str, int]] = None
+
+    def of(self, text: str, number: int) -> "Statement":
+        """Itself, as the statement of this number in a client's text."""
+        self.source = (text, number)
+        return self
 
 
 class Statements:
@@ -68,8 +75,8 @@ class Statements:
         shape = (NUMBERS.sub("0", TEXTS.sub("''", text)), database)
         model = self.by_shape.get(shape)
         if model is not None and model.form.types is not None:
-            return [Statement(ENGINE, model.verb, None, text.encode(), model.form)]
-        made = self.of_parts(sql.statements(text), database)
+            return [Statement(ENGINE, model.verb, None, text.encode(), model.form).of(text, 0)]
+        made = [it.of(text, at) for at, it in enumerate(self.of_parts(sql.statements(text), database))]
         if len(made) == 1 and made[0].kind == ENGINE and made[0].verb == "select" and is_plain(shape[0], text, made[0]):
             self.by_shape[shape] = made[0]
         self.by_text[key] = made

@@ -1,14 +1,14 @@
 """--check: why a foreign table over a file, or over a table of a database, is refused."""
 import collections, difflib, json, os, sys
-from typing import Callable, List, Optional, Tuple
+from typing import Callable, Dict, List, Optional, Tuple
 
 from ..sql import Unsayable, quoted_text, tokens
 from .advice import NUL, Refused, Report, plain_name, say, shown
 from .csv_cells import is_boolean, is_integer, kind_of
 from .csv_files import MOST_ROWS, read_csv, widths
-from .databases import SHAPES, check_shape, opened, recipe, unsound
+from .databases import SHAPES, UNREAD, check_shape, opened, recipe, unsound
 from .files import is_blob_name
-from .json_lines import Number, member_kind, read_lines
+from .json_lines import Number, Twice, member_kind, read_lines, say_twice
 from .script import guarded
 
 TYPES = {**dict.fromkeys(("smallint", "integer", "int", "bigint"), "integer"), "text": "text", "boolean": "boolean", "bool": "boolean"}
@@ -63,7 +63,7 @@ def field_fault(kind: str, text: str) -> Optional[str]:
 
 def check_csv(path: str, report: Report, columns: list, words: "argparse.Namespace") -> None:
     """Reports each fault of a CSV file under the columns; where it looks to be something else, that in their place."""
-    found, other = read_csv(path, report)
+    found, other, _ = read_csv(path, report)
     if found:
         check_records(found, report, columns, words.header == "true", words.null)
     if other and report.faults:
@@ -94,9 +94,12 @@ def check_records(found: list, report: Report, columns: list, header: bool, null
 def check_jsonl(path: str, report: Report, columns: list, _words: "argparse.Namespace") -> None:
     """Reports each fault of a file of JSON lines under the columns."""
     wanted, counts, rows = {"integer": "integer", "text": "text", "boolean": "boolean"}, collections.Counter(), 0
+    twice = {}  # type: Dict[str, int]
     for number, value in read_lines(path):
         rows += 1
         counts.update([*value])
+        if isinstance(value, Twice):
+            twice.setdefault(value.member, number)
         for name, kind, member in columns:
             own = member_kind(value.get(member or name))
             if own not in ("null", wanted[kind]):
@@ -104,6 +107,7 @@ def check_jsonl(path: str, report: Report, columns: list, _words: "argparse.Name
                 inner = value[member or name]
                 text = inner if isinstance(inner, Number) else json.dumps(inner, ensure_ascii=False)
                 report.fault(f" column {name}: {shown(text)} is {said}, no {kind}", number)
+    say_twice(report, twice)
     for name, _, member in columns:
         asked = member or name
         if rows and asked not in counts:
@@ -119,13 +123,21 @@ def check_sqlite(path: str, report: Report, columns: list, words: "argparse.Name
         base = opened(path)
         try:
             unsound(base, path)
-            if table not in SHAPES:
-                raise Refused(f" table {table} is of another shape than the two that fedq reads: {recipe(path, table)}")
-            check_shape(base, path, table, report)
+            check_table(base, path, table, report)
         finally:
             base.close()
     if table in SHAPES and tuple(it[1] for it in columns) != SHAPES[table][1]:
         report.fault(f" table {table} has columns of the types {', '.join(SHAPES[table][1])}, and the foreign table others")
+
+
+def check_table(base: "sqlite3.Connection", path: str, table: str, report: Report) -> None:
+    """Reports each fault of a table. Refused where it is of no shape that can be bound, with the way out."""
+    try:
+        if table not in SHAPES:
+            raise Refused(UNREAD)
+        check_shape(base, table, report)
+    except Refused as refused:
+        raise Refused(f" table {table} cannot be bound ({refused.why}): {recipe(path)}") from None
 
 
 CHECKS = {"csv": check_csv, "jsonl": check_jsonl, "sqlite": check_sqlite}

@@ -1,15 +1,17 @@
 """SQLite databases: which of their tables can be bound."""
 import os, re
-from typing import List, Optional
+from typing import Dict, List, Optional
 
-from ..terminal import folder_word, path_word, shell_word
-from .advice import Refused, Report, beside, plain_stem, shown, source_name
+from ..terminal import folder_word, path_word
+from .advice import Refused, Report, beside, listed, plain_stem, shown, source_name
 from .csv_files import MOST_ROWS
 
 SHAPES = {
     "orders": ("CREATE TABLE orders (id INTEGER PRIMARY KEY, part INTEGER, n INTEGER)", ("integer", "integer", "integer")),
     "people": ("CREATE TABLE people (id INTEGER PRIMARY KEY, name TEXT, active INTEGER)", ("integer", "text", "boolean")),
 }
+
+UNREAD = "of another shape than the two that fedq reads"
 
 
 def opened(path: str) -> "sqlite3.Connection":
@@ -30,11 +32,16 @@ def opened(path: str) -> "sqlite3.Connection":
     if os.path.exists(f"{path}-journal") and os.path.getsize(f"{path}-journal"):
         out = f"sqlite3 {path_word(path)} 'PRAGMA user_version' rolls it back"
         raise Refused(f" has the journal of a write that broke off, or goes on: {out}")
-    log = os.path.exists(f"{path}-wal") and os.path.getsize(f"{path}-wal") > 4096
+    log = log_of(path)
     name = "file:" + re.sub(r"[?#%]", lambda it: f"%{ord(it[0]):02x}", os.path.abspath(path))
     base = sqlite3.connect(name + ("?mode=ro" if log else "?immutable=1"), uri=True)
     base.text_factory = bytes
     return base
+
+
+def log_of(path: str) -> bool:
+    """Whether a database has a log with rows in it."""
+    return os.path.exists(f"{path}-wal") and os.path.getsize(f"{path}-wal") > 4096
 
 
 def text_of(raw: bytes) -> str:
@@ -57,21 +64,16 @@ def unsound(base: "sqlite3.Connection", path: str) -> None:
         raise Refused(f" has auto-vacuum: sqlite3 {file} 'PRAGMA auto_vacuum = 0; VACUUM'")
     virtual = base.execute("SELECT name FROM sqlite_master WHERE sql LIKE 'CREATE VIRTUAL%'").fetchone()
     if virtual:
-        raise Refused(f" has the virtual table {text_of(virtual[0])}, and fedq opens no database with one: take the tables out as CSV")
+        raise Refused(f" has the virtual table {text_of(virtual[0])}, and fedq opens no database with one: {recipe(path)}", by_copy=True)
     said = one(base, "PRAGMA quick_check")
     if said != b"ok":
         raise Refused(f" is damaged: {said.decode(errors='replace').splitlines()[0]}")
 
 
-def recipe(path: str, table: str) -> str:
-    """The command that takes a table of any shape out as CSV."""
-    stem = plain_stem(path, "database")
-    folder = os.path.join(os.path.dirname(path), stem + "_csv")
-    file = re.sub(r"[^A-Za-z0-9_-]+", "_", table) or "table"
-    query = shell_word('SELECT * FROM "' + table.replace('"', '""') + '"')
-    target = path_word(f"{folder}/{file}.csv")
-    return (f"mkdir -p {path_word(folder)} && sqlite3 -csv -header -nullvalue '\\N' {path_word(path)} {query} > {target} "
-            f"&& fedq-setup --csv {source_name(stem)}={folder_word(folder)}")
+def recipe(path: str) -> str:
+    """The command that takes all tables of a database that cannot be bound out as CSV."""
+    name = source_name(plain_stem(path, "database"))
+    return f"fedq-setup --sqlite {name}={folder_word(path)} --copy {beside(path, '_plain')}"
 
 
 def same_text(text: str, wanted: str) -> bool:
@@ -90,21 +92,22 @@ def cell_fault(kind: str, value: object) -> Optional[str]:
     return f"is {shape}, {shown(text)}, no {kind}" if kind != "boolean" or not isinstance(value, int) else f"is {value}, neither 0 nor 1"
 
 
-def check_shape(base: "sqlite3.Connection", path: str, table: str, report: Report) -> None:
-    """Whether a table can be bound: it was made by the shape's text, nothing more is on it, and each cell is of its column's type."""
+def check_shape(base: "sqlite3.Connection", table: str, report: Report) -> None:
+    """Whether a table can be bound: it was made by the shape's text, nothing more is on it, and each cell is of its column's type. Refused
+    with what is said after the table's name."""
     text, kinds = SHAPES[table]
     made = base.execute("SELECT sql FROM sqlite_master WHERE type = 'table' AND name = ?", (table,)).fetchone()
     if not made:
-        raise Refused(f" has no table {table}")
+        raise Refused("is not there")
     if not same_text(text_of(made[0]), text):
-        raise Refused(f" table {table} was not made by `{text}`, so it is not bound: {recipe(path, table)}")
+        raise Refused(f"not made by `{text}`")
     more = base.execute("SELECT type, name FROM sqlite_master WHERE tbl_name = ? AND type IN ('index', 'trigger')", (table,)).fetchone()
     points = [text_of(it[0]) for it in base.execute("SELECT sql FROM sqlite_master WHERE sql IS NOT NULL AND type = 'table'")]
     if more or any(re.search(rf"REFERENCES\s+[\"`\[]?{table}\b", it, re.I) for it in points):
         said = f"the {text_of(more[0])} {text_of(more[1])}" if more else "a key of another table that points at it"
-        raise Refused(f" table {table} has {said}, so it is not bound: {recipe(path, table)}")
+        raise Refused(f"has {said}")
     if one(base, f"SELECT count(*) FROM {table}") > MOST_ROWS:
-        raise Refused(f" table {table} has more than {MOST_ROWS:,} rows")
+        raise Refused(f"more than {MOST_ROWS:,} rows")
     names = [it[1].decode() for it in base.execute(f"PRAGMA table_info({table})")]
     columns = ", ".join(f"typeof({it}), {it if kind != 'text' else f'CAST({it} AS BLOB)'}" for it, kind in zip(names, kinds))
     for row in base.execute(f"SELECT {columns} FROM {table} ORDER BY {names[0]}"):
@@ -116,11 +119,20 @@ def check_shape(base: "sqlite3.Connection", path: str, table: str, report: Repor
                 report.fault(f" table {table}, {names[0]} {row[1]}: {name} {why}")
 
 
+def says_unbound(report: Report, path: str, whys: Dict[str, List[str]]) -> None:
+    """Says in one line which tables of a database cannot be bound, and the command that takes them out."""
+    parts = [f"{listed(names, 12)} ({why})" for why, names in whys.items()]
+    if parts:
+        report.by_copy = True
+        report.fault(f" has tables that cannot be bound: {'; '.join(parts)}: {recipe(path)}")
+        report.taken_out = report.faults[-1]
+
+
 def bind_sqlite(path: str, report: Report) -> List[str]:
     """The tables of a database that can be bound."""
     if path == ":memory:":
         return [*SHAPES]
-    bound = []
+    bound, whys = [], {}  # type: List[str], Dict[str, List[str]]
     base = opened(path)
     if os.path.exists(f"{path}-shm"):
         report.warn(f": {path}-shm is there: another program may have it open, and fedq opens no database that is in use")
@@ -132,12 +144,13 @@ def bind_sqlite(path: str, report: Report) -> List[str]:
             count = len(report.faults)
             try:
                 if table not in SHAPES or kind != "table":
-                    raise Refused(f" {kind} {table} is of another shape than the two that fedq reads: {recipe(path, table)}")
-                check_shape(base, path, table, report)
+                    raise Refused(UNREAD if kind == "table" else "a view")
+                check_shape(base, table, report)
+                if len(report.faults) == count:
+                    bound.append(table)
             except Refused as refused:
-                report.fault(refused.why)
-            if len(report.faults) == count:
-                bound.append(table)
+                whys.setdefault(refused.why, []).append(table)
+        says_unbound(report, path, whys)
     finally:
         base.close()
     if not found:

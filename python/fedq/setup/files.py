@@ -1,11 +1,12 @@
 """Files as bytes and as text, and what their names say."""
-import os, re, stat, unicodedata
-from typing import Optional
+import functools, json, os, re, stat, unicodedata
+from typing import FrozenSet, Optional
 
 from ..terminal import folder_word, path_word, shell_word
 from .advice import Refused, beside, python_text
 
 MOST_BYTES = 67_108_864
+MANIFEST = "fedq-copies.json"  # what `--copy` did, in the folder of the copies
 OTHER_FILES = set("md py sh sql html htm pdf png jpg doc docx log yml yaml toml xml js css ini cfg bak tmp db sqlite sqlite3".split())
 LINES_FILES = {"json", "jsonl", "ndjson"}
 
@@ -33,7 +34,7 @@ def packed(path: str, raw: bytes) -> None:
     """Refuses what is no text by its first bytes."""
     file = path_word(path)
     if raw[:2] == b"\x1f\x8b":
-        raise Refused(f" is packed by gzip: gunzip -c {file} > {beside(path, '.csv' if '.csv' in path else '.jsonl')}")
+        raise Refused(f" is packed by gzip: gunzip -c {file} > {beside(path, '.csv' if '.csv' in path else '.jsonl')}", by_copy=True)
     if raw[:4] == b"PK\x03\x04":
         raise Refused(" is a workbook or a zip archive: save its sheet as \"CSV UTF-8\", or unzip it")
     if raw[:4] == b"PAR1":
@@ -43,7 +44,8 @@ def packed(path: str, raw: bytes) -> None:
         raise Refused(f" is a SQLite database: fedq-setup --sqlite NAME={file}")
     if raw[:2] in (b"\xff\xfe", b"\xfe\xff") or raw[:400].count(b"\0") > len(raw[:400]) // 4:
         name = "utf-16" if raw[:2] in (b"\xff\xfe", b"\xfe\xff") else "utf-16le" if raw[1:2] == b"\0" else "utf-16be"
-        raise Refused(f" is in UTF-16: iconv -f {name} -t utf-8 {file} > {beside(path, '_utf8' + os.path.splitext(path)[1])}", 1)
+        target = beside(path, "_utf8" + os.path.splitext(path)[1])
+        raise Refused(f" is in UTF-16: iconv -f {name} -t utf-8 {file} > {target}", 1, by_copy=True)
 
 
 def text_of(path: str, raw: bytes) -> str:
@@ -55,12 +57,32 @@ def text_of(path: str, raw: bytes) -> str:
     line = len(re.findall(rb"\r\n|\r|\n", raw[:begin])) + 1
     windows = re.search(rb"[\x80-\x9f]", raw) is not None
     target = beside(path, "_utf8" + os.path.splitext(path)[1])
-    raise Refused(f" is not UTF-8: iconv -f {'cp1252' if windows else 'latin1'} -t utf-8 {path_word(path)} > {target}", line)
+    raise Refused(f" is not UTF-8: iconv -f {'cp1252' if windows else 'latin1'} -t utf-8 {path_word(path)} > {target}", line, by_copy=True)
 
 
 def is_blob_name(name: str) -> bool:
     """Whether fedq reads a file of this name."""
     return re.fullmatch(r"[A-Za-z0-9_-][A-Za-z0-9_.-]{0,254}", name) is not None
+
+
+@functools.lru_cache(maxsize=64)
+def copies_by(manifest: str, _length: int, _time: int) -> FrozenSet[str]:
+    """The names of the copies that a manifest has; none where it cannot be read. A change of it is seen by its length and time."""
+    try:
+        with open(manifest, encoding="utf-8") as file:
+            return frozenset(json.load(file)["copies"])
+    except (OSError, ValueError, KeyError, TypeError):
+        return frozenset()
+
+
+def is_copy(path: str) -> bool:
+    """Whether `--copy` made a file, so that its first record is its heading."""
+    manifest = os.path.join(os.path.dirname(path), MANIFEST)
+    try:
+        found = os.stat(manifest)
+    except OSError:
+        return False
+    return os.path.basename(path) in copies_by(manifest, found.st_size, found.st_mtime_ns)
 
 
 def file_fault(kind: str, folder: str, name: str) -> Optional[str]:

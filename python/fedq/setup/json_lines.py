@@ -1,14 +1,17 @@
 """Files of JSON lines: their objects, their members, and what may surprise in them."""
 import collections, difflib, json, re
-from typing import Iterator, Optional, Tuple
+from typing import Dict, Iterator, List, Optional, Tuple
 
 from ..names import quoted_name
 from ..sql import quoted_text
 from ..terminal import path_word, shell_word
-from .advice import Refused, Report, beside, json_text, own_name, plain_name, shown
-from .csv_cells import is_integer
-from .csv_files import MOST_COLUMNS, MOST_ROWS
+from .advice import Refused, Report, beside, json_text, listed, own_name, plain_name, shown
+from .csv_cells import Column, is_integer
+from .csv_files import MOST_COLUMNS, MOST_ROWS, column_notes
 from .files import content, packed
+
+
+MOST_PARTS = 8  # of the program of jq that is advised
 
 
 class Number(str):
@@ -38,7 +41,24 @@ def no_number(text: str) -> None:
 
 HIGH, LOW = (rf"\\u[dD][{it}][0-9a-fA-F]{{2}}" for it in ("89abAB", "c-fC-F"))
 HALF = re.compile(f"{HIGH}(?!{LOW})|(?<!{HIGH}){LOW}")
-DECODER = json.JSONDecoder(parse_int=whole, parse_float=real, parse_constant=no_number)
+
+
+class Twice(dict):
+    """An object that has a member more than once; the last counts. `member` is the first such member."""
+    member = ""
+
+
+def members(pairs: List[Tuple[str, object]]) -> dict:
+    """The object of its members, in their order."""
+    found = dict(pairs)
+    if len(found) == len(pairs):
+        return found
+    made, seen = Twice(found), set()  # type: Twice, set
+    made.member = next(name for name, _ in pairs if name in seen or seen.add(name))
+    return made
+
+
+DECODER = json.JSONDecoder(parse_int=whole, parse_float=real, parse_constant=no_number, object_pairs_hook=members)
 
 
 def depth(value: object) -> int:
@@ -53,9 +73,9 @@ def parsed(path: str, raw: bytes, number: int) -> dict:
     try:
         line = raw.decode()
     except UnicodeDecodeError:
-        raise Refused(f" is not UTF-8: iconv -f latin1 -t utf-8 {file} > {beside(path, '_utf8.jsonl')}", number) from None
+        raise Refused(f" is not UTF-8: iconv -f latin1 -t utf-8 {file} > {beside(path, '_utf8.jsonl')}", number, by_copy=True) from None
     if line[:1] == "\ufeff":
-        raise Refused(f" begins with a byte order mark: tail -c +4 {file} > {out}", number)
+        raise Refused(f" begins with a byte order mark: tail -c +4 {file} > {out}", number, by_copy=True)
     try:
         value = DECODER.decode(line)
         if HALF.search(line.replace("\\\\", "")):
@@ -65,9 +85,10 @@ def parsed(path: str, raw: bytes, number: int) -> dict:
     except RecursionError:
         raise Refused(" is nested more than 127 deep", number) from None
     except ValueError as error:
-        raise Refused(no_json(line, error, file, out), number) from None
+        why = no_json(line, error, file, out)
+        raise Refused(why, number, by_copy=": jq " in why) from None
     if isinstance(value, list):
-        raise Refused(f" is an array, no object: jq -c '.[]' {file} > {out}", number)
+        raise Refused(f" is an array, no object: jq -c '.[]' {file} > {out}", number, by_copy=True)
     if not isinstance(value, dict):
         raise Refused(" is no object", number)
     return value
@@ -121,22 +142,33 @@ def jq(program: str) -> str:
     return f"jq -c {shell_word(program)}"
 
 
-def left_out(report: Report, member: str, seen: dict) -> None:
-    """Reports why no column can read a member, and the way out."""
+def left_out(member: str, seen: dict) -> Tuple[str, int, str]:
+    """Why no column can read a member, the line that shows it, and the part of a program of jq that is the way out, if there is one."""
     way, one = path_of(member), [it for it in seen if it not in ("null", "text", "integer", "boolean")]
     said = {"text": "a text", "integer": "a number", "boolean": "a boolean"}
-    as_text = jq(f"{way} |= if . == null then . else tostring end")
-    if one:
-        kind = min(one, key=seen.get)
-        as_json = jq(f"{way} |= tojson")
-        out = {"an array": as_json, "an object": f"{as_json}, or a member of it, as {jq(f'.x = {way}.x')}"}.get(kind, as_text)
-        if kind == "a text with U+0000":
-            report.leave_out(f": {member} has U+0000", seen[kind])
-        else:
-            report.leave_out(f": {member} is {kind}", seen[kind], out)
-    else:
+    as_text = f"{way} |= if . == null then . else tostring end"
+    if not one:
         old, new = sorted((it for it in seen if it != "null"), key=seen.get)[:2]
-        report.leave_out(f": {member} is {said[new]}, and {said[old]} in line {seen[old]}", seen[new], as_text)
+        return f"{member} is {said[new]}, and {said[old]} in line {seen[old]}", seen[new], as_text
+    kind = min(one, key=seen.get)
+    if kind == "a text with U+0000":
+        return f"{member} has U+0000", seen[kind], ""
+    return f"{member} is {kind}", seen[kind], f"{way} |= tojson" if kind in ("an array", "an object") else as_text
+
+
+def say_left_out(report: Report, path: str, found: List[Tuple[str, int, str]], misled: str, calm: str) -> None:
+    """Says in one line which members no column can read, the command that makes texts of them, and what may mislead in the columns."""
+    if not found and misled:
+        report.warn(f": {misled}")
+    elif not found and calm:
+        report.notice(f": {calm}")
+    if not found:
+        return
+    said = [f"{what} (line {line})" for what, line, _ in found]
+    program = " | ".join(part for _, _, part in found[:MOST_PARTS] if part)
+    out = f"{jq(program)} {path_word(path)} > {beside(path, '_text.jsonl')}" if program else ""
+    report.by_copy = True
+    report.leave_out((f": {misled}; " if misled else ": ") + listed(said), out=out)
 
 
 def likely(report: Report, counts: dict, firsts: dict, rows: int) -> None:
@@ -148,22 +180,55 @@ def likely(report: Report, counts: dict, firsts: dict, rows: int) -> None:
             report.warn(f": {member} stands in {count} of {rows} lines, where {near[0]} does not: is it meant?", firsts[member])
 
 
+def say_twice(report: Report, twice: Dict[str, int], is_row: bool = False) -> None:
+    """Warns of members that an object has more than once, each with its first line, or with `is_row` its first row."""
+    if twice:
+        first, said = min(twice.values()), f" has {listed([*map(shown, twice)])} more than once in one object: the last counts"
+        report.warn(f": row {first}{said}" if is_row else said, None if is_row else first)
+
+
+class Texts:
+    """The texts of a member, looked at 1,000 at a time."""
+
+    def __init__(self) -> None:
+        self.seen, self.texts, self.lines = Column(), [], []  # type: Column, List[str], List[int]
+
+    def take(self, text: str, line: int) -> None:
+        """Takes a text in, with its line."""
+        self.texts.append(text)
+        self.lines.append(line)
+        if len(self.texts) == 1000:
+            self.column()
+
+    def column(self) -> Column:
+        """What the texts look like."""
+        if self.texts:
+            self.seen.see(self.texts, self.lines)
+        self.texts, self.lines = [], []
+        return self.seen
+
+
 def bind_jsonl(path: str, report: Report) -> Optional[Tuple[list, str]]:
     """The columns of a file of JSON lines, as they are declared, and no further options; None where it cannot be bound."""
-    kinds, counts, firsts, rows = {}, collections.Counter(), {}, 0
+    kinds, counts, firsts, rows, looks, twice = {}, collections.Counter(), {}, 0, {}, {}
     for number, value in read_lines(path):
         rows += 1
+        if isinstance(value, Twice):
+            twice.setdefault(value.member, number)
         for member, inner in value.items():
+            if type(inner) is str:
+                looks.setdefault(member, Texts()).take(inner, number)
             kinds.setdefault(member, {}).setdefault(member_kind(inner), number)
             counts[member] += 1
             firsts.setdefault(member, number)
     if not rows:
         raise Refused(" has no line with an object")
-    columns, taken = [], set()
+    say_twice(report, twice)
+    columns, taken, out_left, texts = [], set(), [], []
     for member, seen in kinds.items():
-        own = [it for it in seen if it != "null"]
+        own, before = [it for it in seen if it != "null"], len(columns)
         if own not in ([], ["text"], ["integer"], ["boolean"]):
-            left_out(report, member, seen)
+            out_left.append(left_out(member, seen))
         elif re.search(r"[\n\r\0]", member) or len(member.encode()) > 8192:
             report.leave_out(f": the member {shown(member)} cannot be named in a statement", firsts[member])
         elif len(columns) == MOST_COLUMNS:
@@ -172,6 +237,11 @@ def bind_jsonl(path: str, report: Report) -> Optional[Tuple[list, str]]:
             name = own_name(plain_name(member, len(columns) + 1), taken)
             option = "" if name == member else f" OPTIONS (member {quoted_text(member)})"
             columns.append(f"{quoted_name(name)} {own[0] if own else 'text'}{option}")
+            if own == ["text"] and looks[member].column().kinds() - {"bit", "integer", "boolean"}:
+                texts.append((name, looks[member].column()))
+        if len(columns) == before:
+            report.unbound.append(member)
+    say_left_out(report, path, out_left, *column_notes(report, texts, "", ""))
     likely(report, counts, firsts, rows)
     if not columns:
         raise Refused(" has no member that a column can read")

@@ -3,11 +3,13 @@ import os, re, sys
 from typing import Callable, List, Optional, Set, Tuple
 
 from ..names import quoted_name
+from ..terminal import folder_word
+from ..notes import ColumnNote, comment_of
 from .access_lists import file_list, folder_list
-from .advice import RESERVED, Refused, Report, own_name, plain_name, say
+from .advice import RESERVED, Refused, Report, listed, own_name, plain_name, say
 from .csv_files import bind_csv
 from .databases import SHAPES, bind_sqlite
-from .files import LINES_FILES, file_fault, is_other
+from .files import LINES_FILES, MANIFEST, file_fault, is_other
 from .json_lines import bind_jsonl
 
 MOST_TABLES, MOST_SOURCES = 256, 64
@@ -20,6 +22,7 @@ def guarded(call: Callable, path: str, report: Report) -> object:
         return call(path, report)
     except Refused as refused:
         report.fault(refused.why, refused.line)
+        report.by_copy = report.by_copy or refused.by_copy
     except UnicodeDecodeError as error:  # (of SQLite, whose message names what is no UTF-8)
         report.fault(f" is no database that fedq opens: {error.object.decode(errors='surrogateescape')}")
     except Exception as error:  # (of SQLite: whatever is no database)
@@ -39,7 +42,7 @@ def tables_of_folder(kind: str, folder: str, is_of_both: bool) -> List[tuple]:
         report.fault(f" is no folder that can be read: {error.strerror}{hint}")
         return [(None, None, report)]
     found = []
-    for name in names:
+    for name in (it for it in names if it != MANIFEST):
         report, path = Report(os.path.join(folder, name)), os.path.join(folder, name)
         why, bound = file_fault(kind, folder, name), None
         if why and is_of_both and " by its name: --" in why:
@@ -60,15 +63,19 @@ def tables_of_folder(kind: str, folder: str, is_of_both: bool) -> List[tuple]:
 
 class Script:
     """The init file as it grows, and what is said beside it. `writes` and `writes_lists` are whether mappings are for writing too, and
-    whether they are where a file has an access control list."""
+    whether they are where a file has an access control list; `has_copies` is whether what cannot be bound of databases was copied."""
 
-    def __init__(self, writes: bool = False, writes_lists: bool = False) -> None:
+    def __init__(self, writes: bool = False, writes_lists: bool = False, has_copies: bool = False) -> None:
         self.lines, self.said, self.taken, self.wrappers, self.failed = [], [], set(), set(), False
-        self.writes, self.writes_lists = writes or writes_lists, writes_lists
+        self.notes, self.tables, self.by_copy = [], [], False  # type: List[ColumnNote], List[str], bool
+        self.reports, self.unbound = [], set()  # type: List[Report], Set[str]
+        self.writes, self.writes_lists, self.has_copies = writes or writes_lists, writes_lists, has_copies
 
     def take(self, report: Report) -> None:
         """Keeps what is said of a file."""
         self.said += report.lines()
+        self.reports.append(report)
+        self.by_copy = self.by_copy or report.by_copy
         self.failed = self.failed or bool(report.faults)
 
     def server(self, kind: str, name: str, writes: bool) -> None:
@@ -106,14 +113,35 @@ class Script:
         name = own_name(wanted if wanted not in self.taken else f"{server}_{wanted}", self.taken)
         if name != wanted:
             report.warn(f": there is a table {wanted}: this one is called {name}")
-        self.lines.append(f"CREATE FOREIGN TABLE {quoted_name(name)} ({', '.join(columns)}) SERVER {server} OPTIONS ({options})")
+        notes = [ColumnNote(name, column, kind) for column, kind in report.notes]
+        made = f"CREATE FOREIGN TABLE {quoted_name(name)} ({', '.join(columns)}) SERVER {server} OPTIONS ({options})"
+        self.lines.append(made + comment_of(notes))
+        self.notes += notes
+        self.tables.append(name)
+
+    def file(self, kind: str, name: str, folder: str, file: str) -> None:
+        """Adds one file of a folder, as a table that is called as the source is."""
+        path = os.path.join(folder, file)
+        report, why = Report(path), file_fault(kind, folder, file)
+        report.source = f"--{kind} {name}={folder_word(folder)}"
+        if why:
+            report.fault(why)
+        bound = None if why else guarded(BINDERS[kind], path, report)
+        self.server(kind, name, bool(bound) and self.may_write(name, folder, [(path, report)]))
+        if bound:
+            self.table(name, name, bound[0], f"filename '{file}'{bound[1]}", report)
+        self.take(report)
 
     def folder(self, kind: str, name: str, folder: str, others: Set[str]) -> None:
         """Adds the tables of a folder; `others` are the folders that another kind of files is read from too."""
         found = tables_of_folder(kind, folder, os.path.realpath(folder) in others)
         bound_files = [(os.path.join(folder, file), report) for file, bound, report in found if bound]
-        self.server(kind, name, self.may_write(name, folder, bound_files))
+        writes = self.may_write(name, folder, bound_files)
+        self.server(kind, name, writes)
         for file, bound, report in found:
+            report.source = f"--{kind} {name}={folder_word(folder)}"
+            if bound and writes and report.unbound:
+                report.warn(f": {listed(report.unbound)} are in no column: an UPDATE of a line that has one is refused (55000)")
             if bound:
                 self.table(name, file.rpartition(".")[0] or file, bound[0], f"filename '{file}'{bound[1]}", report)
             self.take(report)
@@ -122,8 +150,13 @@ class Script:
         """Adds the tables of a database."""
         report = Report(path)
         bound = guarded(bind_sqlite, path, report) or []
+        if self.has_copies:
+            report.faults = [it for it in report.faults if it != report.taken_out]
         files = [(path, report)] if bound and path != ":memory:" else []
-        self.server("sqlite", name, self.may_write(name, os.path.dirname(path) or ".", files))
+        if bound:
+            self.server("sqlite", name, self.may_write(name, os.path.dirname(path) or ".", files))
+        else:
+            self.unbound.add(name)
         for table in bound:
             columns = re.findall(r"[(,] ?(\w+)", SHAPES[table][0])
             declared = [f"{it} {kind}{' NOT NULL' * (it == 'id')}" for it, kind in zip(columns, SHAPES[table][1])]

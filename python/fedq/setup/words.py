@@ -2,11 +2,13 @@
 import argparse, gc, os, sys
 from typing import Dict, List, Tuple
 
-from .advice import say
+from ..terminal import folder_word, path_word
+from .advice import Refused, say
 from .check import check
-from .script import MOST_SOURCES, Script, split_source
+from .set_up import set_up, set_up_copies, sources_of
 
 USAGE = """usage: fedq-setup [--csv NAME=FOLDER].. [--jsonl NAME=FOLDER].. [--sqlite NAME=FILE].. [--out FILE] [--write] [--write-acl]
+           [--copy FOLDER]
        fedq-setup --check csv|jsonl|sqlite FOLDER FILE --columns "name type, .." [--header true] [--null TEXT] [--members "a, b"]
 
 Looks at folders of CSV files, of JSON lines, and at SQLite databases, and writes an init file for `fedq run` and `fedq-shell`: a table for
@@ -16,6 +18,11 @@ The status is 1 where something could not be bound, 2 where the words are wrong.
 
 fedq cannot see access control lists, so a write may widen who reads a file that has one: --write reports each, and binds the tables of its
 source for reading alone; --write-acl binds them for writing all the same.
+
+--copy FOLDER makes plain copies of the sources in FOLDER, those anew whose source was changed since, and binds the copies: CSV with commas
+in UTF-8, a JSON object a line with members a_b for objects, whole numbers for decimals (price_x100), a month beside a date, and tables of
+databases that cannot be bound. FOLDER/fedq-copies.json says what was done. The sources stay as they are. Prints the words to start with;
+the init file is written where --out is given.
 
 --check prints on standard output why a CREATE FOREIGN TABLE over FILE is refused, a line for each fault, and ends with 1 where
 there is one. Of a database FOLDER is the database, and FILE its table."""
@@ -48,28 +55,48 @@ def texts_of(given: List[str]) -> Tuple[Dict[str, str], List[str]]:
     return texts, rest
 
 
-def set_up(words: argparse.Namespace) -> int:
+def write_script(words: argparse.Namespace) -> int:
     """Writes the init file, and prints what there is to say; the exit status."""
-    script, names = Script(words.write, words.write_acl), set()
-    for kind in ("csv", "jsonl", "sqlite"):
-        for word in getattr(words, kind):
-            source = split_source(word)
-            if not source:
-                return usage_fault(f"NAME=PATH expected, NAME of a-z, 0-9 and _ and no reserved word: {word}")
-            if source[0] in names or len(names) == MOST_SOURCES:
-                return usage_fault(f"two sources are called {source[0]}" if source[0] in names else f"more than {MOST_SOURCES} sources")
-            names.add(source[0])
-            if kind == "sqlite":
-                script.database(*source)
-            else:
-                others = words.jsonl if kind == "csv" else words.csv
-                script.folder(kind, *source, {os.path.realpath(it.partition("=")[2]) for it in others})
-    script.write(words.out)
-    for line in script.said:
+    try:
+        sources = sources_of(vars(words))
+    except ValueError as fault:
+        return usage_fault(str(fault))
+    made = set_up(sources, words.write, words.write_acl)
+    made.writer.write(words.out)
+    for line in made.warnings:
         say(line)
-    count = len(script.taken)
-    say(f"fedq-setup: {count} table{'s' * (count != 1)}" + (f" in {words.out}" if words.out else ""))
-    return int(script.failed)
+    hint = "; --copy FOLDER makes plain copies, with whole numbers of decimals and lines of JSON" if made.by_copy else ""
+    say(f"fedq-setup: {counted(len(made.tables), 'table', 'tables')}" + (f" in {words.out}" if words.out else "") + hint)
+    return int(made.failed)
+
+
+def counted(count: int, one: str, more: str) -> str:
+    """A count of things, as it is said."""
+    return f"{count:,} {one if count == 1 else more}"
+
+
+def copy_sources(words: argparse.Namespace) -> int:
+    """Makes the copies and writes their init file, and prints what there is to say; the exit status."""
+    try:
+        copies, sources, made = set_up_copies(sources_of(vars(words)), words.copy, words.write, words.write_acl)
+    except ValueError as fault:
+        return usage_fault(str(fault))
+    except Refused as refused:
+        say(words.copy + refused.why)
+        return 1
+    if words.out:
+        made.writer.write(words.out)
+    for report in copies.reports:
+        for line in report.lines():
+            say(line)
+    for line in made.warnings:
+        if line.startswith("warning: ") or made.failed:
+            say(line)
+    start = " ".join(f"--{kind} {name}={folder_word(os.fspath(path))}" for kind, named in sources.items() for name, path in named.items())
+    init = f" --init {path_word(words.out)}" if words.out else ""
+    count = f"{counted(copies.anew + copies.kept, 'copy', 'copies')} in {words.copy}, {copies.anew:,} of them new"
+    say(f"fedq-setup: {count}; {counted(len(made.tables), 'table', 'tables')}" + (f": fedq-shell {start}{init}" if start else ""))
+    return int(made.failed or any(it.faults for it in copies.reports))
 
 
 def read(given: List[str]) -> argparse.Namespace:
@@ -77,7 +104,7 @@ def read(given: List[str]) -> argparse.Namespace:
     parser = Words(prog="fedq-setup", add_help=False, allow_abbrev=False)
     for word in ("--csv", "--jsonl", "--sqlite"):
         parser.add_argument(word, action="append", default=[])
-    for word in ("--out", "--header"):
+    for word in ("--out", "--header", "--copy"):
         parser.add_argument(word)
     parser.add_argument("--check", nargs=3)
     for word in ("--write", "--write-acl"):
@@ -98,7 +125,7 @@ def main(given: List[str]) -> int:
         return check(words, usage_fault)
     if not words.csv + words.jsonl + words.sqlite:
         return usage_fault("name a folder or a database")
-    return set_up(words)
+    return write_script(words) if words.copy is None else copy_sources(words)
 
 
 def start(given: List[str]) -> int:

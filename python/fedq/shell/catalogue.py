@@ -150,6 +150,27 @@ class Catalogue:
         elif found:
             self.objects.setdefault((found.kind, found.name), found)
 
+    def add_table(self, name: str, columns: list[tuple[str, str, bool]], server: str = "") -> None:
+        """Takes in a table that was made elsewhere: of each column the name, the type, and whether it is NOT NULL."""
+        table = self.objects[("table", name)] = Object("table", name, False)
+        table.of = server
+        for column, type_name, is_not_null in columns:
+            table.columns.append(Column(column, type_name, {}))
+            table.columns[-1].is_not_null = is_not_null
+
+    def take_tables(self, rows: list[list[str]]) -> None:
+        """Takes in all tables that are there, one row a column, by tables: table, column, type, NO where it is NOT NULL, and server. What
+        the shell has seen made keeps its options."""
+        found = {}
+        for table, column, type_name, is_nullable, server in rows:
+            found.setdefault((table, server), []).append((column, TYPES.get(type_name, type_name), is_nullable == "NO"))
+        names = {table for table, _ in found}
+        for name in [it for it in self.tables if it not in names]:
+            del self.objects[("table", name)]
+        for (name, server), columns in found.items():
+            if ("table", name) not in self.objects:
+                self.add_table(name, columns, server)
+
     def of_kind(self, kind: str) -> list[Object]:
         """All objects of a kind."""
         return [it for it in self.objects.values() if it.kind == kind]

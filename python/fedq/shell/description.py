@@ -43,7 +43,8 @@ def of_table(catalogue: Catalogue, table: Object) -> Iterator[str]:
     for name, it in zip(names, table.columns):
         member = f"  member {it.options['member']}" if "member" in it.options else ""
         yield f"  {name:<{longest}}  {it.type}{' NOT NULL' * it.is_not_null}{member}"
-    yield f"  of server {table.of}, {source_of(catalogue, table.of)}"
+    if table.of:
+        yield f"  of server {table.of}" + (f", {source_of(catalogue, table.of)}" if catalogue.get("server", table.of) else "")
     yield from (f"  {option} '{text}'" for option, text in table.options.items())
 
 

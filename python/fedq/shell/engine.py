@@ -24,8 +24,8 @@ class Ended(Exception):
 class Nobody:
     """Whom no waiting is shown to."""
 
-    def tick(self, seconds: float) -> None:
-        """So many seconds were waited."""
+    def tick(self, seconds: float, what: str = "") -> None:
+        """This number of seconds was waited."""
 
     def clear(self) -> None:
         """Something came."""

@@ -1,15 +1,19 @@
-"""More about a refusal than its code: the sentence of docs/ERRORS.md, the nearest names, the valid options, and what stands where in a
-file."""
+"""More about a refusal than its code: the sentence of docs/ERRORS.md, the place in the statement and what to write instead, the nearest
+names, the valid options, and what is where in a file."""
 from __future__ import annotations
 
 import os, re, shutil, subprocess
 from collections.abc import Iterable, Iterator
 
+from ..advice import advice, shown
+from ..advice.judging import NAMES
+from ..errors import MEANINGS
 from ..names import quoted_name
 from ..sql import RESERVED
 from ..terminal import folder_word
 from .catalogue import TYPES, Parser, nearest
 from .engine import APART
+from .output import width_of
 from .queries import entries, is_name
 from .statements import tokens
 
@@ -35,26 +39,32 @@ class Hints:
     """Hints on the statements of one session."""
 
     def __init__(self, home, catalogue, user) -> None:
-        self.home, self.catalogue, self.user = home, catalogue, user
+        self.home, self.catalogue, self.user, self.is_set_up = home, catalogue, user, False
         self.by_code = {"42P01": self.unknown_tables, "42703": self.unknown_columns, "42704": self.unknown_objects,
                         "HV00D": self.valid_options, "HV00J": self.valid_options, "HV00N": self.free_sources,
                         "42601": self.length_of_a_type}
 
     def sentence(self, code: str) -> str:
         """What docs/ERRORS.md says of a code in short, or nothing."""
-        for folder in ("docs", "../share/doc/fedq", "../share/fedq/docs"):
-            try:
-                with open(os.path.join(self.home, folder, "ERRORS.md"), encoding="utf-8") as file:
-                    found = re.search(rf"^\| \[{code}\]\([^|]*\|[^|]*\| (.*) \|$", file.read(), re.M)
-                    return found[1] if found else ""
-            except OSError:
-                continue
-        return ""
+        return MEANINGS.get(code, "")
+
+    def folder_of(self, table_name: str) -> tuple[str, str]:
+        """The kind and the path of the source of a table."""
+        kind, _, path = self.catalogue.source_of(self.catalogue.tables[table_name].of)
+        return kind, path
 
     def lines(self, code: str, text: str) -> list[str]:
         """The hints on a statement that was refused by this code."""
+        found = advice(code, text, self.catalogue.tables, self.folder_of)
+        lines = shown(found, text, width_of) if found else []
         if code in self.by_code:
-            return list(self.by_code[code](text))
+            return [*lines, *self.by_code[code](text)]
+        return lines or self.lines_of_object(code, text)
+
+    def lines_of_object(self, code: str, text: str) -> list[str]:
+        """The hints on a statement on objects, or on a write, that was refused by this code."""
+        if code == "42501" and tokens(text)[:1] and tokens(text)[0].value in ("insert", "update", "delete") and self.setup_words():
+            return [f"to write: fedq-setup {self.setup_words()} --write --out write.sql, then --init write.sql"]
         made = Parser(text).object()
         is_table = made and made.kind == "table" and not made.is_drop and made.options
         if is_table and code in ("22P02", "HV00A", "HV00R", "54000", "HV004", "HV000"):
@@ -68,7 +78,7 @@ class Hints:
         unknown = [it for it in called.values() if it not in tables]
         for name in unknown:
             yield from said_of("foreign table", name, tables)
-        if unknown and not tables and self.setup_words():
+        if unknown and not tables and not self.is_set_up and self.setup_words():
             yield f"no table was made yet: fedq-setup {self.setup_words()} > setup.sql writes what makes some, and --init setup.sql runs it"
         for at, it in enumerate(found[:-1]):
             if not unknown and is_name(it) and found[at + 1] == ("mark", ".") and it.value not in called:
@@ -88,12 +98,10 @@ class Hints:
         labels = {found[at + 1].value for at, it in enumerate(found[:-1]) if it == ("word", "as")}
         for at, it in enumerate(found):
             is_function = found[at + 1:at + 2] == [("mark", "(")] and it.kind == "word"
-            if not is_name(it) or it.value in passed or it.kind == "word" and it.value in KEYWORDS or is_function:
+            is_said = it.value in labels or it.kind == "word" and (it.value in KEYWORDS or it.value in NAMES)  # (advice says it)
+            if not is_name(it) or it.value in passed or is_said or is_function:
                 continue
             passed.add(it.value)
-            if it.value in labels:
-                yield f"only ORDER BY sees {quoted_name(it.value)}, which AS names"
-                continue
             if it.kind == "quoted" and not nearest(it.value, columns):
                 yield f"double quotes make a name; a text stands in single ones: '{it.value}'"
             yield from said_of("column", it.value, columns)

@@ -67,6 +67,10 @@ class Keeper:
         if is_object or WRITES.match(text) and any(self.catalogue.is_in_memory(table) for _, table in entries(tokens(text))[:1]):
             self.made.append((session, text))
 
+    def made_objects(self) -> list[str]:
+        """The statements on objects that were done, in their order."""
+        return [text for _, text in self.made if not WRITES.match(text)]
+
     def begin_anew(self) -> None:
         """Ends the engine, and begins it anew with what was made in it, unless it is a served one: that is connected to with the next
         statement, since it may still be at work. Says what was done, and what is gone. Where it is interrupted or does not begin, the

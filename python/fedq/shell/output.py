@@ -1,4 +1,4 @@
-"""How rows are shown: as aligned tables, one field a line, CSV, or JSON objects, one a line."""
+"""How rows are shown: as aligned tables, one field a line, CSV, lines with TABs, tables of Markdown, or JSON objects, one a line."""
 from __future__ import annotations
 
 import re, unicodedata
@@ -6,11 +6,12 @@ from collections.abc import Callable
 from json.encoder import encode_basestring
 
 from ..lines import NULL, unescaped
-from ..terminal import printable, printable_rows
+from ..terminal import BETWEEN_FIELDS, printable, printable_rows
 
 if False:  # (for the types alone)
     from .session import Settings
 
+UNSAFE_IN_LINES = BETWEEN_FIELDS  # what a terminal may not be sent of whole lines
 START = "1 R\t"  # before the fields of a row, as `1 H` before names
 IS_NUMBER = re.compile(r"-?[0-9]+|\\N").fullmatch
 NEEDS_QUOTES = re.compile('[",\r\n]')
@@ -217,8 +218,70 @@ class Json(Writer):
         return "".join([f"{head}{'null' if it == NULL else value(it)}" for head, value, it in members]) + "}\n"
 
 
+class Tsv(Writer):
+    """Lines of fields that TABs part, after a line of names, as COPY of PostgreSQL writes them: `\\N` is NULL, and backslash, TAB and line
+    ends are `\\\\`, `\\t`, `\\n` and `\\r`. A reply has them so."""
+
+    def header(self) -> None:
+        self.write("\t".join(self.names) + "\n")
+
+    def page(self, text: str) -> None:
+        self.write(text + "\n")
+
+
+class Markdown(Writer):
+    """A table of GitHub's Markdown. Whole numbers are to the right."""
+
+    def header(self) -> None:
+        self.write(self.row(self.names, "") + self.row(["---:" if it == "integer" else "---" for it in self.types], None))
+
+    def page(self, text: str) -> None:
+        self.write("".join(self.row(it.split("\t"), self.settings.null) for it in text.split("\n")))
+
+    def row(self, fields: list[str], null: str | None) -> str:
+        """A line of the table; `null` is shown for NULL. Of a line of marks, where it is None, nothing is escaped."""
+        cells = fields if null is None else [null if it == NULL and null else markdown_text(unescaped(it)) for it in fields]
+        return f"| {' | '.join(cells)} |\n"
+
+
+class Rows(Writer):
+    """Takes rows for the shell itself, as texts; None is NULL."""
+
+    def __init__(self) -> None:
+        super().__init__(None, [], None)
+        self.rows = []
+
+    def page(self, text: str) -> None:
+        self.rows += [[None if it == NULL else unescaped(it) for it in row.split("\t")] for row in text.split("\n")]
+
+
+MARKS = str.maketrans({"\\": "\\\\", "|": "\\|", "<": "&lt;", "&": "&amp;", "`": "\\`", "*": "\\*", "[": "\\["})
+
+
+def markdown_text(text: str) -> str:
+    """A text as a cell of a table of Markdown, on one line: it is shown as it is."""
+    lines = text.replace("\r\n", "\n").replace("\r", "\n").split("\n")
+    return "<br>".join(printable(it.translate(MARKS)) for it in lines)
+
+
+def json_printable(text: str) -> str:
+    """Lines of JSON as a terminal may show them: the same values, with escapes of JSON."""
+    return UNSAFE_IN_LINES.sub(lambda found: f"\\u{ord(found[0]):04x}", text)
+
+
 def writer(settings: Settings, types: list[str], write: Callable[[str], None]) -> Writer:
     """What shows an answer by these settings; `types` are those of its columns, as far as they are known."""
     if settings.format == "aligned":
         return (Expanded if settings.is_expanded else Aligned)(settings, types, write)
-    return {"csv": Csv, "json": Json}[settings.format](settings, types, write)
+    return {"csv": Csv, "json": Json, "jsonl": Json, "tsv": Tsv, "markdown": Markdown}[settings.format](settings, types, write)
+
+
+def rows_text(names: list[str], rows: list[list[str]]) -> str:
+    """Names and rows of the shell's own as lines of a reply, for `Writer.take`."""
+    lines = ["1 H\t" + "\t".join(map(escaped, names)), *(START + "\t".join(map(escaped, row)) for row in rows)]
+    return "".join(f"{it}\n" for it in lines)
+
+
+def escaped(text: str) -> str:
+    """A text as a field of a reply."""
+    return text.replace("\\", "\\\\").replace("\t", "\\t").replace("\n", "\\n").replace("\r", "\\r")

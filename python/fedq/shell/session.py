@@ -1,22 +1,24 @@
 """One session: its engine, what was made in it, and what its answers look like."""
 from __future__ import annotations
 
-import os, sys, time
+import os, re, sys, time
 
 from ..names import quoted_name
-from ..terminal import printable
-from .catalogue import Catalogue
-from .engine import Ended, Nobody
+from ..notes import comment_of, notes_of
+from ..terminal import printable, printable_rows
+from .catalogue import Catalogue, Parser
+from .column_hints import column_hints
+from .engine import Ended, Nobody, Reply
 from .hints import Hints
-from .keeper import OWNER, PERSON, WRITES, Broken, Keeper, drop
-from .output import Writer, writer
+from .keeper import OWNER, PERSON, WRITES, Broken, Keeper
+from .output import Writer, json_printable, rows_text, writer
 from .person import Spinner, paged
 from .queries import Types
 from .statements import ScriptReader, statements_of, tokens
+from .types import types_by_engine
 
 if False:  # (for the types alone)
-    from .engine import Reply
-    from .statements import Statement
+    from .statements import Statement, Token
 
 
 class Settings:
@@ -24,6 +26,11 @@ class Settings:
 
     def __init__(self, words) -> None:
         self.format, self.is_expanded, self.null, self.is_paged = words.format, words.is_expanded, printable(words.null), True
+        self.is_timed = None  # whether the time is shown; None: to a person, under what is no file
+
+    def has_types(self) -> bool:
+        """Whether what is shown depends on the types of the columns."""
+        return self.format in ("json", "jsonl", "markdown")
 
 
 class Session:
@@ -32,8 +39,10 @@ class Session:
     def __init__(self, home, words, interrupts, is_person) -> None:
         self.home, self.words, self.interrupts, self.is_person = home, words, interrupts, is_person
         self.settings, self.output, self.output_name = Settings(words), sys.stdout.buffer, ""
-        self.catalogue = Catalogue(words.sources)
+        self.is_terminal = sys.stdout.isatty()
+        self.catalogue, self.notes = Catalogue(words.sources), []
         self.hints = Hints(home, self.catalogue, words.user)
+        self.last_statement = ""
         self.watcher, self.has_refused = Spinner() if sys.stderr.isatty() else Nobody(), False
         self.keeper = Keeper(home, words, interrupts, self.watcher, self.catalogue, self.tell)
         if words.output:
@@ -50,6 +59,7 @@ class Session:
             raise Broken(f"cannot read init {name}")
         except UnicodeDecodeError:
             raise Broken("init is not UTF-8")
+        self.notes += notes_of(text)
         for statement in statements_of(text, ScriptReader()):
             if not self.run_as_owner(statement, name):
                 raise Broken(f"{name} was not run to its end, and no statement behind it")
@@ -73,18 +83,32 @@ class Session:
             return False
         if not self.keeper.catch_up():
             return False
+        self.last_statement = f"{statement.text};"
         began = time.monotonic()
         shown = writer(self.settings, self.types_of(statement.text), self.show)
         reply = self.reply_to(statement.text, shown)
         if reply and reply.code:
             self.tell_refusal(reply, statement, name)
         elif reply:
+            seconds = time.monotonic() - began
             self.keeper.note(PERSON, statement.text, reply)
             self.note_cursor(statement.text, reply)
             self.show_answer(shown, reply)
-            if self.is_person and self.settings.format == "aligned":
-                self.show_here(f"Time: {(time.monotonic() - began) * 1000:.1f} ms")
+            self.show_time(seconds)
+            hints = column_hints(statement.text, self.notes)
+            if hints:
+                self.tell(*hints)
         return bool(reply and not reply.code)
+
+    def is_timed(self) -> bool:
+        """Whether the time of a statement is shown: by default to a person, where what is shown is for persons."""
+        set_by_hand = self.settings.is_timed
+        return self.is_person and self.settings.format == "aligned" if set_by_hand is None else set_by_hand
+
+    def show_time(self, seconds: float) -> None:
+        """Shows how long the answer took, up to its last row: a pager's time is not in it."""
+        if self.is_timed():
+            (self.show_here if self.is_person else self.tell)(f"Time: {seconds * 1000:.1f} ms")
 
     def reply_to(self, text: str, shown: Writer) -> Reply | None:
         """Asks a statement; `shown` takes its rows. Gives the reply, or None where there is none and this was told."""
@@ -111,7 +135,14 @@ class Session:
         words = [it.value for it in found[:1]]
         if words == ["fetch"]:
             return self.catalogue.cursors.get(found[-1].value if found[-1].value != ";" else found[-2].value, [])
-        return Types(self.catalogue, found).of_output() if words == ["select"] else []
+        return self.types_of_query(text, found, self.settings.has_types()) if words == ["select"] else []
+
+    def types_of_query(self, text: str, found: list[Token], matter: bool) -> list[str]:
+        """The types of a query's columns. Where they matter and the shell does not know all, the engine is asked."""
+        known = Types(self.catalogue, found).of_output()
+        if known and "" not in known or not matter:
+            return known
+        return types_by_engine(text, self.code_of) or known
 
     def interrupted(self, seconds: float, text: str) -> None:
         """Ctrl-C came while a statement was asked: reads the rest of its rows where some came, else stops it. A person's engine is begun
@@ -144,14 +175,17 @@ class Session:
         if reply.tag == "DECLARE CURSOR":
             found = tokens(text)
             select = found.index(("word", "select"))
-            self.catalogue.cursors[found[1].value] = Types(self.catalogue, found[select:]).of_output()
+            query = text[re.search(r"\bselect\b", text, re.I).start():]
+            self.catalogue.cursors[found[1].value] = self.types_of_query(query, found[select:], matter=True)
         elif reply.tag == "CLOSE CURSOR":
             self.catalogue.cursors.pop(tokens(text)[1].value, None)
 
     # What is shown
 
     def show(self, text: str) -> None:
-        """Writes rows to where rows go."""
+        """Writes rows to where rows go: exactly, but to a terminal as it may show them."""
+        if self.is_terminal and not self.output_name:
+            text = (json_printable if self.settings.format in ("json", "jsonl") else printable_rows)(text)
         self.output.write(text.encode(errors="replace"))
 
     def show_here(self, *lines: str) -> None:
@@ -208,11 +242,24 @@ class Session:
         finally:
             self.tell(*lines)
 
-    def names_of_columns(self, name: str) -> list[str] | None:
-        """The columns of a table that was made elsewhere, by the engine's answer; None where there is no such table."""
-        shown = Writer(self.settings, [], drop)
-        reply = self.reply_to(f"SELECT * FROM {quoted_name(name)} LIMIT 0", shown) if self.keeper.catch_up() else None
-        return shown.names if reply and not reply.code else None
+    def script(self) -> str:
+        """What made the objects that are there now, a statement a line, with the notes on their columns, as `--init` reads it."""
+        lines = []
+        for text in self.keeper.made_objects():
+            made = Parser(text).object()
+            notes = [it for it in self.notes if made and not made.is_drop and made.kind == "table" and it.table == made.name]
+            lines.append(f"{text}{comment_of(notes)}\n")
+        return "".join(lines)
+
+    def show_rows(self, names: list[str], rows: list[list[str]]) -> None:
+        """Shows rows of the shell's own, where rows go."""
+        shown = writer(self.settings, [], self.show)
+        shown.take(rows_text(names, rows))
+        self.show_answer(shown, Reply("", "", ""))
+
+    def code_of(self, text: str) -> str:
+        """The code with which the engine refuses a statement, whose rows are dropped."""
+        return self.keeper.ask_as(PERSON, text).code
 
     def place(self, statement: Statement, name: str) -> str:
         """Where a statement of a file, or of standard input, begins."""

@@ -1,20 +1,24 @@
 """From the words to the end of the shell."""
 from __future__ import annotations
 
-import os, subprocess, sys
+import os, shutil, subprocess, sys
 
 from ..terminal import printable
+from . import sources
 from .commands import Commands, Leave, told_of
-from .engine import APART, Ended
-from .hints import setup_program
+from .completion import Completer
+from .editor_lines import lines_for
+from .elsewhere import know_tables
+from .engine import Ended
 from .interrupts import Interrupts
 from .keeper import Broken
-from .person import Completer, Lines
 from .session import Session
-from .statements import Reader, ScriptReader, statements_of
+from .statements import Reader
 from .words import USAGE, BadWords, read
 
-PROMPTS = {"": "   -> ", "'": "   '> ", '"': '   "> '}
+if False:  # (for the types alone)
+    from ..setup.set_up import SetUp
+
 REFUSED, INTERRUPTED = 1, 130
 
 
@@ -75,11 +79,14 @@ class Shell:
             self.session = session = Session(self.home, self.words, self.interrupts, self.is_person)
         except OSError as fault:
             return fail(told_of(fault), 1)
-        commands = Commands(session)
+        commands, made = Commands(session), self.looked_at()
         session.keeper.begin()
         for name in self.words.inits:
             session.run_init(name)
-        self.set_up()
+        if made:
+            self.make_tables(made)
+        if self.words.save and not commands.obey(f"\\save {self.words.save}"):
+            return 1
         if self.words.inputs:
             self.run_inputs(commands)
         elif self.is_person:
@@ -123,19 +130,23 @@ class Shell:
 
     def run_person(self, commands: Commands) -> None:
         """Reads and does what a person types, to the end."""
-        self.lines = Lines(Completer(self.session.catalogue, commands.known))
+        know_tables(self.session)
+        self.lines = commands.lines = lines_for(Completer(self.session.catalogue, commands.known))
         self.session.show_here("Type \\? for help.")
-        reader = Reader()
+        reader, begun = Reader(), []
         while True:
             try:
                 with self.interrupts.allowed():
-                    typed = self.lines.next(PROMPTS[reader.quote] if reader.is_inside else "fedq> ")
+                    typed = self.lines.next(reader)
+                begun = self.remembered(commands, reader, begun, typed)
                 for line in typed:
                     commands.take(reader, line, 0, "")
             except KeyboardInterrupt:
                 self.session.watcher.clear()
                 self.session.show_here("")
+                self.lines.remember("\n".join(begun))
                 reader.drop()
+                begun = []
             except EOFError:
                 self.session.show_here("")
                 if reader.is_inside:
@@ -144,28 +155,33 @@ class Shell:
             except Leave:
                 return
 
+    def remembered(self, commands: Commands, reader: Reader, begun: list[str], typed: list[str]) -> list[str]:
+        """Takes what was typed into the history, a statement as a whole; the lines of the statement that is not at its end. `begun` are
+        those before what was typed."""
+        if len(typed) == 1 and commands.is_command(typed[0], reader.is_inside, True):
+            self.lines.remember(typed[0])
+            return begun
+        begun, ahead = [*begun, *typed], reader.copy()
+        for line in typed:
+            ahead.take(line)
+        if ahead.is_inside:
+            return begun
+        self.lines.remember("\n".join(begun))
+        return []
+
     # Sources without objects
 
-    def set_up(self) -> None:
-        """Where sources are named and no init file, offers a person to let fedq-setup make tables of them."""
-        sources = [it for it in self.words.sources if it[0] != "list"]
-        setup = setup_program(self.home)
-        if not sources or self.words.inits or not setup or not self.is_person:
-            return
-        words = [word for kind, name, path in sources for word in (f"--{kind}", f"{name}={path}")]
-        sys.stdout.write("No --init file says which tables these sources have. Shall fedq-setup look at them and make some? [Y/n] ")
-        sys.stdout.flush()
-        with self.interrupts.allowed():
-            answer = sys.stdin.readline().strip().lower()
-        if answer in ("", "y", "yes"):
-            self.make_tables([setup, *words])
+    def looked_at(self) -> SetUp | None:
+        """What fedq-setup makes of the sources, where tables are to be made of them. That is before the program begins, which may change
+        a database that it opens."""
+        is_so = sources.are_to_be_looked_at(self.words, self.is_person, self.interrupts)
+        return sources.looked_at(self.session) if is_so else None
 
-    def make_tables(self, command: list[str]) -> None:
-        """Runs the statements that fedq-setup writes, and tells what it says."""
-        with self.interrupts.allowed():
-            done = subprocess.run(command, stdin=subprocess.DEVNULL, stdout=subprocess.PIPE, **APART)
-        text = done.stdout.decode(errors="replace")
-        for statement in statements_of(text, ScriptReader()):
-            self.session.run_as_owner(statement, "fedq-setup")
-        tables = self.session.catalogue.of_kind("table")
-        self.session.show_here(*map(str, tables), f"({len(tables)} table{'s' * (len(tables) != 1)})")
+    def make_tables(self, made: SetUp) -> None:
+        """Makes these tables, and shows a person which."""
+        sources.make_tables(self.session, made)
+        if self.is_person:
+            tables = self.session.catalogue.of_kind("table")
+            width = shutil.get_terminal_size().columns
+            lines = [it if len(it) <= width else it[:width - 2] + ".." for it in map(str, tables)]
+            self.session.show_here(*lines, f"({len(tables)} table{'s' * (len(tables) != 1)}; \\save FILE keeps what made them)")

@@ -40,10 +40,21 @@ class Reader:
         """Forgets what was read of a statement."""
         self.parts, self.line, self.quote, self.is_broken = [], 0, "", False
 
+    def copy(self) -> Reader:
+        """A reader that has read the same."""
+        other = Reader()
+        other.parts, other.line, other.quote, other.is_broken = [*self.parts], self.line, self.quote, self.is_broken
+        return other
+
     @property
     def is_inside(self) -> bool:
         """Whether a statement was begun."""
         return bool(self.quote) or any(it.strip() for it in self.parts)
+
+    @property
+    def text(self) -> str:
+        """What was read of a statement."""
+        return "".join(self.parts).strip()
 
     def end(self) -> list[Statement]:
         """The statement that ends here, alone in a list; none where there is no text."""

@@ -12,7 +12,7 @@ returns c =
     let less : c.args.column < length t.fields.items = omega arith in
     let line : c.line_at.result.now ≡ line_at t.content.items c.index.result.now =
     c.line_at.ensures ∙ ap (λ (b : List ℕ). line_at b c.index.result.now) c.deref.ensures.value in
-    IfOk-weaker c.cell_of_line.result _ _
+    IfOk-weaker c.cell.result _ _
     (λ v h. cell_there t c.args.at c.args.column c.index.result.now c.index-2.result.now _ c.requires c.index.ensures less c.index-2.ensures
     (h ∙ ap (λ (l : List ℕ). read_cell (json_of l) (reader_of c.index-2.result.now)) line))
-    c.cell_of_line.ensures
+    c.cell.ensures

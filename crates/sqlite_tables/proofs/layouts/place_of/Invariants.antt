@@ -1,7 +1,7 @@
-use Rattle.std.proofs.Common.{◌≡◌, ℕ, ◌<◌, false}
-use Rattle.sqlite_tables.specs.Layouts.{layout_at}
+use Rattle.std.proofs.Common.{◌≡◌, ℕ, ◌<◌, false, slice_index_or}
+use Rattle.sqlite_tables.specs.Layouts.{Layout}
 use Rattle.sqlite_tables.proofs.Places.{has_name}
 use Rattle.sqlite_tables.proofs.layouts.place_of.Given as goal
 
-abbrev pub invariant-loop-table : goal.invariant-loop-table
-invariant-loop-table l = (k : ℕ) → k < l.table → has_name l.name (layout_at k) ≡ false
+abbrev pub invariant-loop-place : goal.invariant-loop-place
+invariant-loop-place l = (k : ℕ) (d : Layout) → k < l.place → has_name l.name (slice_index_or l.shapes k d) ≡ false

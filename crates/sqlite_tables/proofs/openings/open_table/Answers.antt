@@ -4,7 +4,6 @@ use Rattle.med_value.specs.Causes.{phase_of}
 use Rattle.med_value.specs.declared.cause.Cause.{Cause}
 use Rattle.med_value.specs.declared.cause.Cause.TheVariants.{InvalidDataType}
 use Rattle.fdw_api.specs.Kinds.{column_of, kinds_of, is_late}
-use Rattle.sqlite_tables.specs.Layouts.{layout_at}
 use Rattle.sqlite_tables.proofs.Settled.{known_after, reads_then, sure_first, sure_then, sure_same}
 use Rattle.sqlite.specs.Effect.{Database}
 use Rattle.sqlite_tables.specs.Tables.{entries_of, entry_of, rows_of}
@@ -16,7 +15,7 @@ use Rattle.sqlite_tables.proofs.openings.open_table.Goals as goal
 pub returns-in-Err-clause-refused : goal.returns-in-Err-clause-refused
 returns-in-Err-clause-refused g c =
     let declared = kinds_of (map column_of c.args.columns.now) in
-    let l = layout_at c.args.table in
+    let l = c.args.shape.now in
     let db = (state g.S.Store c.args.conn.now).now in
     only_more _ _ c.in-Err.fault
     (λ cause by. (subst (λ (d : Cause). is_late (phase_of d) ≡ true) (sym by.0) refl, λ h. least_told declared (entry_of db l) cause (not_found db l declared cause (by.1 h) by.0)))
@@ -24,19 +23,19 @@ returns-in-Err-clause-refused g c =
 
 pub read_whole-requires-clause-known : goal.read_whole-requires-clause-known
 read_whole-requires-clause-known g c h =
-    known_after (state g.S.Store c.args.conn.now).now (state g.S.Store c.find_table.new.conn).now (layout_at c.args.table) (c.find_table.ensures.same h) (c.requires.known h)
+    known_after (state g.S.Store c.args.conn.now).now (state g.S.Store c.find_table.new.conn).now c.args.shape.now (c.find_table.ensures.same h) (c.requires.known h)
 
 pub returns-then-not-types_match-clause-refused : goal.returns-then-not-types_match-clause-refused
 returns-then-not-types_match-clause-refused g c =
     let declared = kinds_of (map column_of c.args.columns.now) in
-    let l = layout_at c.args.table in
+    let l = c.args.shape.now in
     let db = (state g.S.Store c.args.conn.now).now in
     let e = sym c.types_match.ensures ∙ c.if-not-types_match.true in
     (refl, λ h. least_told declared (entry_of db l) InvalidDataType (mismatched db l declared (c.in-Ok.ensures.found h) e))
 
 pub returns-clause-ok : goal.returns-clause-ok
 returns-clause-ok g c h =
-    let l = layout_at c.args.table in
+    let l = c.args.shape.now in
     let db = (state g.S.Store c.args.conn.now).now in
     let e = sym c.types_match.ensures ∙ c.if-not-types_match.false in
     let same = c.find_table.ensures.same h in
@@ -46,13 +45,13 @@ returns-clause-ok g c h =
 
 pub returns-clause-count : goal.returns-clause-count
 returns-clause-count g c h =
-    let l = layout_at c.args.table in
+    let l = c.args.shape.now in
     subst (λ (d : Database). IfOk c.read_whole.result (λ n. n ≡ length (rows_of d l))) (c.find_table.ensures.same h) (c.read_whole.ensures.count h)
 
 pub returns-clause-refused : goal.returns-clause-refused
 returns-clause-refused g c =
     let declared = kinds_of (map column_of c.args.columns.now) in
-    let l = layout_at c.args.table in
+    let l = c.args.shape.now in
     let db = (state g.S.Store c.args.conn.now).now in
     let e = sym c.types_match.ensures ∙ c.if-not-types_match.false in
     refused_more c.read_whole.result _ _
@@ -68,7 +67,7 @@ returns-clause-refused g c =
 pub returns-in-Err-clause-sure_refused : goal.returns-in-Err-clause-sure_refused
 returns-in-Err-clause-sure_refused g c =
     let declared = kinds_of (map column_of c.args.columns.now) in
-    let l = layout_at c.args.table in
+    let l = c.args.shape.now in
     let db = (state g.S.Store c.args.conn.now).now in
     both_only _ _ _ c.in-Err.fault
     (λ cause by none h. least_told declared (entry_of db l) cause (not_found db l declared cause (none h.after h.known) by.0))
@@ -77,14 +76,14 @@ returns-in-Err-clause-sure_refused g c =
 pub returns-then-not-types_match-clause-sure_refused : goal.returns-then-not-types_match-clause-sure_refused
 returns-then-not-types_match-clause-sure_refused g c h =
     let declared = kinds_of (map column_of c.args.columns.now) in
-    let l = layout_at c.args.table in
+    let l = c.args.shape.now in
     let db = (state g.S.Store c.args.conn.now).now in
     let e = sym c.types_match.ensures ∙ c.if-not-types_match.true in
     least_told declared (entry_of db l) InvalidDataType (mismatched db l declared (c.in-Ok.ensures.sure_found h.after h.known) e)
 
 pub returns-clause-sure_ok : goal.returns-clause-sure_ok
 returns-clause-sure_ok g c h =
-    let l = layout_at c.args.table in
+    let l = c.args.shape.now in
     let db = (state g.S.Store c.args.conn.now).now in
     let e = sym c.types_match.ensures ∙ c.if-not-types_match.false in
     let first = c.find_table.ensures.reads in
@@ -96,7 +95,7 @@ returns-clause-sure_ok g c h =
 
 pub returns-clause-sure_count : goal.returns-clause-sure_count
 returns-clause-sure_count g c h =
-    let l = layout_at c.args.table in
+    let l = c.args.shape.now in
     let first = c.find_table.ensures.reads in
     let next = c.read_whole.ensures.reads in
     subst (λ (d : Database). IfOk c.read_whole.result (λ n. n ≡ length (rows_of d l))) (sure_same first next h) (c.read_whole.ensures.sure_count (sure_then first next h))
@@ -107,7 +106,7 @@ returns-clause-sure_once g c h = c.find_table.ensures.sure_once (sure_first c.re
 pub returns-clause-sure_refused : goal.returns-clause-sure_refused
 returns-clause-sure_refused g c =
     let declared = kinds_of (map column_of c.args.columns.now) in
-    let l = layout_at c.args.table in
+    let l = c.args.shape.now in
     let db = (state g.S.Store c.args.conn.now).now in
     let e = sym c.types_match.ensures ∙ c.if-not-types_match.false in
     let first = c.find_table.ensures.reads in

@@ -2,7 +2,6 @@ use Rattle.std.proofs.Common.{◌≡◌, rules, length, w64, subst, List}
 use Rattle.std.proofs.lemmas.Int.{to_z-of_z}
 use Rattle.sqlite.specs.Held.{state}
 use Rattle.sqlite.specs.Order.{Row as SqlRow}
-use Rattle.sqlite_tables.specs.Layouts.{layout_at}
 use Rattle.sqlite_tables.specs.Tables.{entries_of}
 use Rattle.sqlite_tables.specs.Lookups.{Adds}
 use Rattle.sqlite_tables.proofs.Columns.{page_parts}
@@ -10,7 +9,7 @@ use Rattle.sqlite_tables.proofs.reading.read_page.Goals as goal
 
 pub returns-clause-adds : goal.returns-clause-adds
 returns-clause-adds g c h =
-    let l = layout_at c.args.table in
+    let l = c.args.shape.now in
     let a = to_z-of_z w64 c.args.low c.ranges.low in
     let joins = rw a at (c.in-Ok.ensures.joins h) in
     let count : c.len.result ≡ length c.in-Ok.page.items = search rules in (
@@ -22,7 +21,7 @@ returns-clause-adds g c h =
 
 pub returns-clause-sure_adds : goal.returns-clause-sure_adds
 returns-clause-sure_adds g c h =
-    let l = layout_at c.args.table in
+    let l = c.args.shape.now in
     let a = to_z-of_z w64 c.args.low c.ranges.low in
     let joins = rw a at (c.in-Ok.ensures.sure_joins h) in
     let count : c.len.result ≡ length c.in-Ok.page.items = search rules in (

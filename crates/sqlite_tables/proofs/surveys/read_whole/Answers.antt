@@ -4,7 +4,6 @@ use Rattle.sqlite.specs.Held.{state}
 use Rattle.med_value.specs.Causes.{phase_of}
 use Rattle.med_value.specs.declared.cause.Cause.{Cause}
 use Rattle.fdw_api.specs.Kinds.{is_of_run}
-use Rattle.sqlite_tables.specs.Layouts.{layout_at}
 use Rattle.sqlite_tables.specs.Cells.{least}
 use Rattle.sqlite_tables.specs.Tables.{entries_of}
 use Rattle.sqlite_tables.proofs.Settled.{known_after, reads_none, reads_then, sure_first, sure_then, sure_same}
@@ -17,14 +16,14 @@ loop-next-init g c = record {
   few = omega arith;
   idle = c.requires.idle;
   same = λ h. refl;
-  seen = λ h. seen_none (layout_at c.args.table) (entries_of (state g.S.Store c.args.conn.now).now (layout_at c.args.table)) (Some least);
-  reads = reads_none (state g.S.Store c.args.conn.now) (layout_at c.args.table);
-  sure_seen = λ h. seen_none (layout_at c.args.table) (entries_of (state g.S.Store c.args.conn.now).now (layout_at c.args.table)) (Some least);
+  seen = λ h. seen_none c.args.shape.now (entries_of (state g.S.Store c.args.conn.now).now c.args.shape.now) (Some least);
+  reads = reads_none (state g.S.Store c.args.conn.now) c.args.shape.now;
+  sure_seen = λ h. seen_none c.args.shape.now (entries_of (state g.S.Store c.args.conn.now).now c.args.shape.now) (Some least);
 }
 
 pub survey_page-requires-clause-known : goal.survey_page-requires-clause-known
 survey_page-requires-clause-known g c h =
-    known_after (state g.S.Store c.args.conn.now).now (state g.S.Store c.loop-next.conn).now (layout_at c.args.table) (c.loop-next.invariant.same h) (c.requires.known h)
+    known_after (state g.S.Store c.args.conn.now).now (state g.S.Store c.loop-next.conn).now c.args.shape.now (c.loop-next.invariant.same h) (c.requires.known h)
 
 pub returns-in-Err-clause-refused : goal.returns-in-Err-clause-refused
 returns-in-Err-clause-refused g c =
@@ -34,7 +33,7 @@ returns-in-Err-clause-refused g c =
     (λ cause by. (
       subst (λ (d : Cause). is_of_run (phase_of d) ≡ true) (sym by.0) refl,
       λ h.
-          stray_further (layout_at c.args.table) (state g.S.Store c.args.conn.now).now (state g.S.Store c.loop-next.conn).now c.loop-next.next c.in-Some.low c.loop-next.count cause
+          stray_further c.args.shape.now (state g.S.Store c.args.conn.now).now (state g.S.Store c.loop-next.conn).now c.loop-next.next c.in-Some.low c.loop-next.count cause
           (c.loop-next.invariant.same h) c.in-Some.is (c.loop-next.invariant.seen h) (rw e at (by.1 h)) by.0,
     ))
     c.in-Err.ensures.refused
@@ -45,7 +44,7 @@ returns-then-count-gt-ROW_LIMIT-clause-refused g c =
     let e = to_z-of_z w64 c.in-Some.low fits in (
       refl,
       λ h.
-          let l = layout_at c.args.table in
+          let l = c.args.shape.now in
           let db = (state g.S.Store c.args.conn.now).now in
           let page = rw e at (c.in-Ok.ensures.seen h) in
           many_stand l (entries_of db l) c.in-Ok.page.next _
@@ -62,14 +61,14 @@ loop-next-preserved g c =
       idle = c.survey_page.ensures.idle;
       same = λ h. c.survey_page.ensures.same h ∙ c.loop-next.invariant.same h;
       seen = λ h.
-          let l = layout_at c.args.table in
+          let l = c.args.shape.now in
           let db = (state g.S.Store c.args.conn.now).now in
           let page = rw e at (c.in-Ok.ensures.seen h) in
           seen_further l db (state g.S.Store c.loop-next.conn).now c.loop-next.next c.in-Ok.page.next c.in-Some.low c.loop-next.count c.in-Ok.page.count (c.loop-next.invariant.same h)
           c.in-Some.is (c.loop-next.invariant.seen h) page;
       reads = reads_then c.loop-next.invariant.reads c.survey_page.ensures.reads;
       sure_seen = λ h.
-          let l = layout_at c.args.table in
+          let l = c.args.shape.now in
           let db = (state g.S.Store c.args.conn.now).now in
           let first = c.loop-next.invariant.reads in
           let next = c.survey_page.ensures.reads in
@@ -80,12 +79,12 @@ loop-next-preserved g c =
 
 pub returns-clause-ok : goal.returns-clause-ok
 returns-clause-ok g c h =
-    let l = layout_at c.args.table in
+    let l = c.args.shape.now in
     seen_whole l (entries_of (state g.S.Store c.args.conn.now).now l) c.loop-next.next c.loop-next.count c.in_default.is (c.loop-next.invariant.seen h) c.loop-next.invariant.few
 
 pub returns-clause-count : goal.returns-clause-count
 returns-clause-count g c h =
-    let l = layout_at c.args.table in
+    let l = c.args.shape.now in
     seen_count l (entries_of (state g.S.Store c.args.conn.now).now l) c.loop-next.next c.loop-next.count c.in_default.is (c.loop-next.invariant.seen h)
 
 pub returns-in-Err-clause-sure_refused : goal.returns-in-Err-clause-sure_refused
@@ -96,7 +95,7 @@ returns-in-Err-clause-sure_refused g c =
     let next = c.survey_page.ensures.reads in
     both_only _ _ _ c.in-Err.fault
     (λ cause by stray h.
-    stray_further (layout_at c.args.table) (state g.S.Store c.args.conn.now).now (state g.S.Store c.loop-next.conn).now c.loop-next.next c.in-Some.low c.loop-next.count cause
+    stray_further c.args.shape.now (state g.S.Store c.args.conn.now).now (state g.S.Store c.loop-next.conn).now c.loop-next.next c.in-Some.low c.loop-next.count cause
     (sure_same first next h) c.in-Some.is (c.loop-next.invariant.sure_seen (sure_first next h)) (rw e at (stray (sure_then first next h))) by.0)
     c.in-Err.ensures.refused c.in-Err.ensures.sure_refused
 
@@ -107,7 +106,7 @@ pub returns-then-count-gt-ROW_LIMIT-clause-sure_refused : goal.returns-then-coun
 returns-then-count-gt-ROW_LIMIT-clause-sure_refused g c h =
     let fits : FitsSigned w64 c.in-Some.low = search rules in
     let e = to_z-of_z w64 c.in-Some.low fits in
-    let l = layout_at c.args.table in
+    let l = c.args.shape.now in
     let db = (state g.S.Store c.args.conn.now).now in
     let first = c.loop-next.invariant.reads in
     let next = c.survey_page.ensures.reads in
@@ -121,10 +120,10 @@ returns-then-count-gt-ROW_LIMIT-clause-reads g c = reads_then c.loop-next.invari
 
 pub returns-clause-sure_ok : goal.returns-clause-sure_ok
 returns-clause-sure_ok g c h =
-    let l = layout_at c.args.table in
+    let l = c.args.shape.now in
     seen_whole l (entries_of (state g.S.Store c.args.conn.now).now l) c.loop-next.next c.loop-next.count c.in_default.is (c.loop-next.invariant.sure_seen h) c.loop-next.invariant.few
 
 pub returns-clause-sure_count : goal.returns-clause-sure_count
 returns-clause-sure_count g c h =
-    let l = layout_at c.args.table in
+    let l = c.args.shape.now in
     seen_count l (entries_of (state g.S.Store c.args.conn.now).now l) c.loop-next.next c.loop-next.count c.in_default.is (c.loop-next.invariant.sure_seen h)

@@ -1,6 +1,5 @@
 use Rattle.std.proofs.Common.{◌≡◌, ◌≤◌, true, false, Some}
 use Rattle.sqlite.specs.Held.{state}
-use Rattle.sqlite_tables.specs.Layouts.{layout_at}
 use Rattle.sqlite_tables.specs.Cells.{least}
 use Rattle.sqlite_tables.specs.Tables.{IsSure, ReadsOnly, entries_of}
 use Rattle.sqlite_tables.specs.Surveys.{IsSeen, rows_to_read}
@@ -11,10 +10,10 @@ invariant-loop-next g l = record {
   few : l.count ≤ 1000000;
   idle : l.conn.in_transaction ≡ false;
   same : g.S.SourceStore.honest ≡ true → (state g.S.Store l.conn).now ≡ (state g.S.Store l.initial.conn).now;
-  seen : g.S.SourceStore.honest ≡ true → IsSeen (layout_at l.table) (entries_of (state g.S.Store l.initial.conn).now (layout_at l.table)) (Some least) l.next l.count;
-  reads : ReadsOnly (state g.S.Store l.initial.conn) (state g.S.Store l.conn) (layout_at l.table);
-  sure_seen : IsSure (state g.S.Store l.initial.conn) (state g.S.Store l.conn) (layout_at l.table)
-      → IsSeen (layout_at l.table) (entries_of (state g.S.Store l.initial.conn).now (layout_at l.table)) (Some least) l.next l.count;
+  seen : g.S.SourceStore.honest ≡ true → IsSeen l.shape (entries_of (state g.S.Store l.initial.conn).now l.shape) (Some least) l.next l.count;
+  reads : ReadsOnly (state g.S.Store l.initial.conn) (state g.S.Store l.conn) l.shape;
+  sure_seen : IsSure (state g.S.Store l.initial.conn) (state g.S.Store l.conn) l.shape
+      → IsSeen l.shape (entries_of (state g.S.Store l.initial.conn).now l.shape) (Some least) l.next l.count;
 }
 
 abbrev pub decreases-loop-next : goal.decreases-loop-next

@@ -1,7 +1,6 @@
 use Rattle.std.proofs.Common.{◌≡◌, rules, length, w64}
 use Rattle.std.proofs.lemmas.Int.{to_z-of_z}
 use Rattle.sqlite.specs.Held.{state}
-use Rattle.sqlite_tables.specs.Layouts.{layout_at}
 use Rattle.sqlite_tables.specs.Tables.{entries_of}
 use Rattle.sqlite_tables.proofs.Refused.{by_none, only_more}
 use Rattle.sqlite_tables.proofs.Surveying.{page_seen, page_not, full_if}
@@ -12,7 +11,7 @@ returns-in-Err-clause-refused g c = by_none _ c.in-Err.fault c.in-Err.ensures.re
 
 pub returns-in-Err-check_rows-clause-refused : goal.returns-in-Err-check_rows-clause-refused
 returns-in-Err-check_rows-clause-refused g c =
-    let l = layout_at c.args.table in
+    let l = c.args.shape.now in
     let a = to_z-of_z w64 c.args.low c.ranges.low in
     only_more _ _ c.fault_of_content.result
     (λ cause by. (
@@ -25,7 +24,7 @@ returns-in-Err-check_rows-clause-refused g c =
 
 pub returns-clause-seen : goal.returns-clause-seen
 returns-clause-seen g c h =
-    let l = layout_at c.args.table in
+    let l = c.args.shape.now in
     let a = to_z-of_z w64 c.args.low c.ranges.low in
     let joins = rw a at (c.in-Ok.ensures.joins h) in
     let count : c.len-count.result ≡ length c.in-Ok.page.items = search rules in
@@ -40,7 +39,7 @@ returns-in-Err-clause-sure_refused g c = by_none _ c.in-Err.fault c.in-Err.ensur
 
 pub returns-in-Err-check_rows-clause-sure_refused : goal.returns-in-Err-check_rows-clause-sure_refused
 returns-in-Err-check_rows-clause-sure_refused g c =
-    let l = layout_at c.args.table in
+    let l = c.args.shape.now in
     let a = to_z-of_z w64 c.args.low c.ranges.low in
     only_more _ _ c.fault_of_content.result
     (λ cause by h.
@@ -50,7 +49,7 @@ returns-in-Err-check_rows-clause-sure_refused g c =
 
 pub returns-clause-sure_seen : goal.returns-clause-sure_seen
 returns-clause-sure_seen g c h =
-    let l = layout_at c.args.table in
+    let l = c.args.shape.now in
     let a = to_z-of_z w64 c.args.low c.ranges.low in
     let joins = rw a at (c.in-Ok.ensures.sure_joins h) in
     let count : c.len-count.result ≡ length c.in-Ok.page.items = search rules in

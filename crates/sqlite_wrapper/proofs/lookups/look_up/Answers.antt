@@ -1,72 +1,25 @@
-use Rattle.std.proofs.Common.{◌≡◌, true, IfSome, map, sym, subst, refl, rules}
+use Rattle.std.proofs.Common.{IfSome, sym, subst}
 use Rattle.sqlite.specs.Held.{state}
-use Rattle.sqlite.specs.Effect.{Database}
 use Rattle.sqlite.specs.View.{IsShaped}
-use Rattle.sqlite_trees.specs.declared.store.Shape.TheVariants as shape
-use Rattle.med_value.specs.Datum.{datum, cell}
-use Rattle.wrapper_parts.specs.Scans.{form_of}
-use Rattle.sqlite_tables.specs.Prelude.{row_in, layout_at, entries_of, IsLookup, rows_with}
-use Rattle.sqlite_tables.proofs.Settled.{known_after, reads_none, reads_then, sure_first, sure_then, sure_same}
-use Rattle.sqlite_wrapper.proofs.Looking.{unanswered, looked_up}
+use Rattle.sqlite_trees.specs.declared.store.Shape.TheVariants as stored
+use Rattle.sqlite_tables.specs.Prelude.{Layout, IsKnown, IsLookup, entries_of}
 use Rattle.sqlite_wrapper.proofs.lookups.look_up.Goals as goal
 
-pub returns-in_default-clause-answered : goal.returns-in_default-clause-answered
-returns-in_default-clause-answered g c =
-    unanswered g.S.SourceStore.honest (entries_of (state g.S.Store c.args.conn.now).now (layout_at c.args.scan.table)) c.args.scan _ c.args.had refl c.requires.had
+pub look_in-requires-clause-known : goal.look_in-requires-clause-known
+look_in-requires-clause-known g c h = subst (λ (l : Layout). ∥ IsKnown c.args.conn.now.schema l ∥₁) (sym c.shape_of-shape.ensures) (c.requires.known h)
 
-pub rows_with-requires-clause-known : goal.rows_with-requires-clause-known
-rows_with-requires-clause-known g c h =
-    known_after (state g.S.Store c.args.conn.now).now (state g.S.Store c.lookup_of.new.conn).now (layout_at c.args.scan.table) (c.lookup_of.ensures.same h) (c.requires.known h)
+pub look_in-requires-clause-shaped : goal.look_in-requires-clause-shaped
+look_in-requires-clause-shaped g c h = subst (λ (l : Layout). IsShaped stored.Table (entries_of (state g.S.Store c.args.conn.now).now l)) (sym c.shape_of-shape.ensures) (c.requires.shaped h)
 
-pub rows_with-requires-clause-shaped : goal.rows_with-requires-clause-shaped
-rows_with-requires-clause-shaped g c h =
-    subst (λ (d : Database). IsShaped shape.Table (entries_of d (layout_at c.args.scan.table))) (sym (c.lookup_of.ensures.same h)) (c.requires.shaped h)
+pub look_in-requires-clause-had : goal.look_in-requires-clause-had
+look_in-requires-clause-had g c h =
+    subst (λ (l : Layout). IfSome c.args.had (IsLookup l (entries_of (state g.S.Store c.args.conn.now).now l))) (sym c.shape_of-shape.ensures) (c.requires.had h)
 
-pub rows_with-requires-clause-is : goal.rows_with-requires-clause-is
-rows_with-requires-clause-is g c h =
-    subst (λ (d : Database). IsLookup (layout_at c.args.scan.table) (entries_of d (layout_at c.args.scan.table)) c.in-Ok.lookup) (sym (c.lookup_of.ensures.same h)) (c.in-Ok.ensures.is h)
+pub returns-clause-answered : goal.returns-clause-answered
+returns-clause-answered g c = rw c.shape_of-shape.ensures at c.look_in.ensures.answered
 
-pub returns-in-Ok-rows_with-clause-answered : goal.returns-in-Ok-rows_with-clause-answered
-returns-in-Ok-rows_with-clause-answered g c =
-    let l = layout_at c.args.scan.table in
-    let db = (state g.S.Store c.args.conn.now).now in
-    let form = form_of c.in-Some.found in
-    let v = datum c.value_at-value.result.now in
-    let v_is : v ≡ cell (map datum c.args.scan.params.items) form.parameter = search rules in
-    looked_up c.in-Ok-rows_with.rows (λ p. p.items) g.S.SourceStore.honest (entries_of db l) c.args.scan c.with_rows.result c.in-Ok.lookup form v c.in-Some.ensures
-    c.with_rows.ensures.shows c.with_rows.ensures.lookup c.in-Ok.ensures.is c.in-Ok.ensures.column v_is c.with_rows.ensures.none c.with_rows.ensures.filled
-    (λ h. subst (λ (d : Database). IfSome c.in-Ok-rows_with.rows (λ p. map (row_in l) p.items ≡ rows_with l c.in-Ok.lookup.column v (entries_of d l))) (c.lookup_of.ensures.same h)
-    (c.in-Ok-rows_with.ensures.rows h))
+pub returns-clause-sure_answered : goal.returns-clause-sure_answered
+returns-clause-sure_answered g c = rw c.shape_of-shape.ensures at c.look_in.ensures.sure_answered
 
-pub returns-in_default-clause-sure_answered : goal.returns-in_default-clause-sure_answered
-returns-in_default-clause-sure_answered g c h had =
-    unanswered true (entries_of (state g.S.Store c.args.conn.now).now (layout_at c.args.scan.table)) c.args.scan _ c.args.had refl (λ yes. had)
-
-pub returns-in_default-clause-reads : goal.returns-in_default-clause-reads
-returns-in_default-clause-reads g c = reads_none (state g.S.Store c.args.conn.now) (layout_at c.args.scan.table)
-
-pub returns-in-Err-rows_with-clause-reads : goal.returns-in-Err-rows_with-clause-reads
-returns-in-Err-rows_with-clause-reads g c = reads_then c.lookup_of.ensures.reads c.rows_with.ensures.reads
-
-pub returns-in-Ok-rows_with-clause-reads : goal.returns-in-Ok-rows_with-clause-reads
-returns-in-Ok-rows_with-clause-reads g c = reads_then c.lookup_of.ensures.reads c.rows_with.ensures.reads
-
-pub returns-in-Ok-rows_with-clause-sure_answered : goal.returns-in-Ok-rows_with-clause-sure_answered
-returns-in-Ok-rows_with-clause-sure_answered g c h had =
-    let l = layout_at c.args.scan.table in
-    let db = (state g.S.Store c.args.conn.now).now in
-    let form = form_of c.in-Some.found in
-    let v = datum c.value_at-value.result.now in
-    let v_is : v ≡ cell (map datum c.args.scan.params.items) form.parameter = search rules in
-    let first = c.lookup_of.ensures.reads in
-    let next = c.rows_with.ensures.reads in
-    let fixed = sure_same first next h in
-    let is = c.in-Ok.ensures.sure_is (sure_first next h) had in
-    let there = subst (λ (d : Database). IsLookup l (entries_of d l) c.in-Ok.lookup) (sym fixed) is in
-    looked_up c.in-Ok-rows_with.rows (λ p. p.items) true (entries_of db l) c.args.scan c.with_rows.result c.in-Ok.lookup form v c.in-Some.ensures
-    c.with_rows.ensures.shows c.with_rows.ensures.lookup (λ yes. is) c.in-Ok.ensures.column v_is c.with_rows.ensures.none c.with_rows.ensures.filled
-    (λ yes. subst (λ (d : Database). IfSome c.in-Ok-rows_with.rows (λ p. map (row_in l) p.items ≡ rows_with l c.in-Ok.lookup.column v (entries_of d l))) fixed
-    (c.in-Ok-rows_with.ensures.sure_rows (sure_then first next h) there))
-
-pub returns-in_err-look-clause-reads : goal.returns-in_err-look-clause-reads
-returns-in_err-look-clause-reads g c = reads_none (state g.S.Store c.args.conn.now) (layout_at c.args.scan.table)
+pub returns-clause-reads : goal.returns-clause-reads
+returns-clause-reads g c = rw c.shape_of-shape.ensures at c.look_in.ensures.reads

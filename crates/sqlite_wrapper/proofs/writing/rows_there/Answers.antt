@@ -1,32 +1,32 @@
 use Rattle.std.proofs.Common.{◌≡◌, ◌≢◌, ℕ, Option, None, IfOk, IfSome, length, subst}
 use Rattle.sqlite.specs.Held.{state}
 use Rattle.sqlite.specs.Effect.{Database}
-use Rattle.sqlite_tables.specs.Prelude.{layout_at, rows_of, tree_found}
+use Rattle.sqlite_tables.specs.Prelude.{rows_of, tree_found}
 use Rattle.sqlite_tables.proofs.Settled.{known_after, reads_then, sure_first, sure_then, sure_same}
 use Rattle.sqlite_wrapper.proofs.Sure.{on_ok}
 use Rattle.sqlite_wrapper.proofs.writing.rows_there.Goals as goal
 
 pub count_rows-requires-clause-known : goal.count_rows-requires-clause-known
 count_rows-requires-clause-known g c h =
-    known_after (state g.S.Store c.args.conn.now).now (state g.S.Store c.find_table.new.conn).now (layout_at c.args.table) (c.find_table.ensures.same h) (c.requires.known h)
+    known_after (state g.S.Store c.args.conn.now).now (state g.S.Store c.find_table.new.conn).now c.args.shape.now (c.find_table.ensures.same h) (c.requires.known h)
 
 pub returns-in-Some-clause-sure_there : goal.returns-in-Some-clause-sure_there
 returns-in-Some-clause-sure_there g c h = c.in-Ok.ensures.sure_found h.after h.known
 
 pub returns-in-Some-clause-sure_count : goal.returns-in-Some-clause-sure_count
 returns-in-Some-clause-sure_count g c h held =
-    subst (λ (o : Option ℕ). IfSome o (λ n. n ≡ length (rows_of (state g.S.Store c.args.conn.now).now (layout_at c.args.table)))) c.in-Some.is held
+    subst (λ (o : Option ℕ). IfSome o (λ n. n ≡ length (rows_of (state g.S.Store c.args.conn.now).now c.args.shape.now))) c.in-Some.is held
 
 pub returns-in-None-clause-sure_there : goal.returns-in-None-clause-sure_there
 returns-in-None-clause-sure_there g c h =
     let found = sure_first c.count_rows.ensures.reads h in
-    on_ok c.count_rows.result (tree_found (state g.S.Store c.args.conn.now).now.schema (layout_at c.args.table) ≢ None) (c.in-Ok.ensures.sure_found found.after found.known)
+    on_ok c.count_rows.result (tree_found (state g.S.Store c.args.conn.now).now.schema c.args.shape.now ≢ None) (c.in-Ok.ensures.sure_found found.after found.known)
 
 pub returns-in-None-clause-sure_count : goal.returns-in-None-clause-sure_count
 returns-in-None-clause-sure_count g c h held =
     let first = c.find_table.ensures.reads in
     let next = c.count_rows.ensures.reads in
-    subst (λ (d : Database). IfOk c.count_rows.result (λ n. n ≡ length (rows_of d (layout_at c.args.table)))) (sure_same first next h) (c.count_rows.ensures.sure_count (sure_then first next h))
+    subst (λ (d : Database). IfOk c.count_rows.result (λ n. n ≡ length (rows_of d c.args.shape.now))) (sure_same first next h) (c.count_rows.ensures.sure_count (sure_then first next h))
 
 pub returns-in-None-clause-reads : goal.returns-in-None-clause-reads
 returns-in-None-clause-reads g c = reads_then c.find_table.ensures.reads c.count_rows.ensures.reads

@@ -3,8 +3,9 @@ use Rattle.sqlite.specs.Held.{state}
 use Rattle.sqlite.specs.View.{IsShaped}
 use Rattle.sqlite.specs.Edit.{without_all}
 use Rattle.sqlite_trees.specs.declared.store.Shape.TheVariants as shape
-use Rattle.sqlite_tables.specs.Prelude.{IsCleanAfter, entries_in}
+use Rattle.sqlite_tables.specs.Prelude.{IsCleanAfter, entries_of}
 use Rattle.sqlite_writes.specs.Writable.{IsSureStep, KeepsTables, StepsTo}
+use Rattle.sqlite_writes.specs.Failing.{GoesOn}
 use Rattle.sqlite_writes.proofs.rewriting.delete_all.Given as goal
 
 abbrev pub invariant-loop-key : goal.invariant-loop-key
@@ -15,12 +16,13 @@ invariant-loop-key g l =
       ref : l.tx.conn.ghost_name ≡ l.initial.tx.conn.ghost_name;
       schema : g.S.SourceStore.honest ≡ true → now.now.schema ≡ old.now.schema;
       inside : g.S.SourceStore.honest ≡ true → IsTrue now.in_transaction;
-      ordered : g.S.SourceStore.honest ≡ true → IsShaped shape.Table (entries_in now.now l.table);
-      others : g.S.SourceStore.honest ≡ true → KeepsTables old.now now.now l.table;
+      ordered : g.S.SourceStore.honest ≡ true → IsShaped shape.Table (entries_of now.now l.shape);
+      others : g.S.SourceStore.honest ≡ true → KeepsTables old.now now.now l.shape;
       kept : g.S.SourceStore.honest ≡ true → now.committed ≡ old.committed;
-      rows : g.S.SourceStore.honest ≡ true → entries_in now.now l.table ≡ without_all (entries_in old.now l.table) (take l.key-index l.gone);
+      rows : g.S.SourceStore.honest ≡ true → entries_of now.now l.shape ≡ without_all (entries_of old.now l.shape) (take l.key-index l.gone);
       was_clean : IsCleanAfter now → IsCleanAfter old;
-      sure_steps : IsSureStep old now l.table → StepsTo old now l.table;
-      sure_kept : IsSureStep old now l.table → now.committed ≡ old.committed;
-      sure_rows : IsSureStep old now l.table → entries_in now.now l.table ≡ without_all (entries_in old.now l.table) (take l.key-index l.gone);
+      goes_on : GoesOn old now;
+      sure_steps : IsSureStep old now l.shape → StepsTo old now l.shape;
+      sure_kept : IsSureStep old now l.shape → now.committed ≡ old.committed;
+      sure_rows : IsSureStep old now l.shape → entries_of now.now l.shape ≡ without_all (entries_of old.now l.shape) (take l.key-index l.gone);
     }

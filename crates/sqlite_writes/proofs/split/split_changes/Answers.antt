@@ -11,7 +11,7 @@ use Rattle.sqlite_writes.proofs.split.split_changes.Goals as goal
 
 pub loop-change-preserved-in_ok-push-in-Insert : goal.loop-change-preserved-in_ok-push-in-Insert
 loop-change-preserved-in_ok-push-in-Insert c =
-    let t = c.args.table in
+    let t = c.args.shape.now in
     let cs = map change_is c.loop-change.change-iterator.rest.items in
     let ds = map change_is c.next.new.self.rest.items in
     let x = tuple c.in-Insert.row in
@@ -32,7 +32,7 @@ loop-change-preserved-in_ok-push-in-Insert c =
 
 pub loop-change-preserved-in_ok-push-in-Update-2 : goal.loop-change-preserved-in_ok-push-in-Update-2
 loop-change-preserved-in_ok-push-in-Update-2 c =
-    let t = c.args.table in
+    let t = c.args.shape.now in
     let cs = map change_is c.loop-change.change-iterator.rest.items in
     let ds = map change_is c.next.new.self.rest.items in
     let x = tuple c.in-Update.row in
@@ -54,7 +54,7 @@ loop-change-preserved-in_ok-push-in-Update-2 c =
     }
 
 pub returns-clause-placed : goal.returns-clause-placed
-returns-clause-placed c = each_row c.args.table c.loop-change.fresh.items c.loop-change.invariant.placed
+returns-clause-placed c = each_row c.args.shape.now c.loop-change.fresh.items c.loop-change.invariant.placed
 
 pub returns-in_err-keyed-in-Insert-clause-refused : goal.returns-in_err-keyed-in-Insert-clause-refused
 returns-in_err-keyed-in-Insert-clause-refused c =
@@ -62,10 +62,10 @@ returns-in_err-keyed-in-Insert-clause-refused c =
     let ds = map change_is c.next.new.self.rest.items in
     let x = tuple c.in-Insert.row in
     let ce : cs ≡ Inserts x ∷ ds = search rules in
-    let fit = fit_on c.args.table (Inserts x) cs ds c.loop-change.invariant.fit ce in
+    let fit = fit_on c.args.shape.now (Inserts x) cs ds c.loop-change.invariant.fit ce in
     let told : c.from_residual.result ≡ Err (Refused NotNull) = search rules in
     subst (λ r. IfErr r (IsKeyless (map change_is c.args.changes.items))) (sym told)
-    (refl, lacks cs (Inserts x) ds _ (search rules) ce (c.in_err-keyed-in-Insert.ensures.err.1 c.args.table fit.0))
+    (refl, lacks cs (Inserts x) ds _ (search rules) ce (c.in_err-keyed-in-Insert.ensures.err.1 c.args.shape.now fit.0))
 
 pub returns-in_err-keyed-in-Update-clause-refused : goal.returns-in_err-keyed-in-Update-clause-refused
 returns-in_err-keyed-in-Update-clause-refused c =
@@ -73,7 +73,7 @@ returns-in_err-keyed-in-Update-clause-refused c =
     let ds = map change_is c.next.new.self.rest.items in
     let x = tuple c.in-Update.row in
     let ce : cs ≡ Updates c.in-Update.id x ∷ ds = search rules in
-    let fit = fit_on c.args.table (Updates c.in-Update.id x) cs ds c.loop-change.invariant.fit ce in
+    let fit = fit_on c.args.shape.now (Updates c.in-Update.id x) cs ds c.loop-change.invariant.fit ce in
     let told : c.from_residual-in_err-keyed-in-Update.result ≡ Err (Refused NotNull) = search rules in
     subst (λ r. IfErr r (IsKeyless (map change_is c.args.changes.items))) (sym told)
-    (refl, lacks cs (Updates c.in-Update.id x) ds _ (search rules) ce (c.in_err-keyed-in-Update.ensures.err.1 c.args.table fit.0))
+    (refl, lacks cs (Updates c.in-Update.id x) ds _ (search rules) ce (c.in_err-keyed-in-Update.ensures.err.1 c.args.shape.now fit.0))

@@ -61,3 +61,14 @@ returns-in-Ok-clause-sure_unread g c after inside bad =
 
 pub returns-in-Ok-clause-sure_inside : goal.returns-in-Ok-clause-sure_inside
 returns-in-Ok-clause-sure_inside g c after inside = (c.in-Ok.ensures.runs after.clean inside).1.mode
+
+pub returns-in-Ok-clause-goes_on : goal.returns-in-Ok-clause-goes_on
+returns-in-Ok-clause-goes_on g c = record { faults = c.execute.ensures.survives.counts; limit = c.execute.ensures.survives.limit }
+
+pub returns-in-Err-clause-goes_on : goal.returns-in-Err-clause-goes_on
+returns-in-Err-clause-goes_on g c = record { faults = c.execute.ensures.survives.counts; limit = c.execute.ensures.survives.limit }
+
+pub returns-in-Err-clause-reported : goal.returns-in-Err-clause-reported
+returns-in-Err-clause-reported g c clean inside =
+    let a : owned c.params-to_sql.result ≡ Int c.args.key = search rules in
+    rw a at (c.in-Err.ensures.runs clean inside)

@@ -112,3 +112,9 @@ returns-in-Err-clause-reported g c clean inside =
     let two = ap bound_value c.cell_of-third.ensures ∙ bound_cell third in
     let key = to_z-of_z w64 c.args.key c.ranges.key in
     rw (key, one, two) at (c.in-Err.ensures.runs clean inside)
+
+pub returns-in-Ok-clause-goes_on : goal.returns-in-Ok-clause-goes_on
+returns-in-Ok-clause-goes_on g c = record { faults = c.execute.ensures.survives.counts; limit = c.execute.ensures.survives.limit }
+
+pub returns-in-Err-clause-goes_on : goal.returns-in-Err-clause-goes_on
+returns-in-Err-clause-goes_on g c = record { faults = c.execute.ensures.survives.counts; limit = c.execute.ensures.survives.limit }

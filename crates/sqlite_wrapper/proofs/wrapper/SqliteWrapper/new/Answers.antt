@@ -12,6 +12,7 @@ returns-clause-new g c = new_source g.S.SourceStore.honest (state g.S.Store c.ar
 
 pub invariant_of-result : goal.invariant_of-result
 invariant_of-result g c = record {
+  shaped = c.in_ok-shapes.ensures;
   counted = search rules;
   idle = c.requires.idle;
   writable = c.requires.writable;

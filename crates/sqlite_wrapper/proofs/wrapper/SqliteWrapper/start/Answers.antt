@@ -17,8 +17,11 @@ use Rattle.sqlite_wrapper.proofs.Looking.{keeps_looks, looks_none}
 use Rattle.sqlite_wrapper.proofs.Giving.{same_get}
 use Rattle.sqlite_wrapper.proofs.wrapper.SqliteWrapper.start.Goals as goal
 
-pub entries_rise-requires : goal.entries_rise-requires
-entries_rise-requires g c = record { writable = c.args.self.now.writable c.args.t.number }
+pub table_rises-requires-clause-within : goal.table_rises-requires-clause-within
+table_rises-requires-clause-within g c = let s = c.args.self.now in within_count c.args.t.number s.bound.items s.counted (bound_within s.bound.items c.args.t.number c.requires.bound)
+
+pub table_rises-requires-clause-writable : goal.table_rises-requires-clause-writable
+table_rises-requires-clause-writable g c = c.args.self.now.writable c.args.t.number
 
 pub new_scan-scan-requires : goal.new_scan-scan-requires
 new_scan-scan-requires g c =
@@ -35,7 +38,7 @@ returns-clause-ok g c =
     let one = subst (λ (z : Spec). IsBegun scan t (promised z c.args.order.items c.args.limit) (map datum c.in_ok-params.params.items)) c.in_ok-spec.ensures c.new_scan-scan.ensures in
     let begun = subst (λ (p : Tuple). IsBegun scan t (promised (spec_of c.args.spec.now) c.args.order.items c.args.limit) p) c.in_ok-params.ensures one in
     sqlite_begins g.S.SourceStore.honest s.bound.items s.staged (state g.S.Store s.conn).now scan t (promised (spec_of c.args.spec.now) c.args.order.items c.args.limit) (map datum c.args.params.now) begun c.requires.allowed
-    s.scans c.insert.new.self s.next s.pulled s.faults (bound_of t) c.entries_rise.ensures (within_count t s.bound.items s.counted (bound_within s.bound.items t c.requires.bound))
+    s.scans c.insert.new.self s.next s.pulled s.faults (bound_of t) c.table_rises.ensures (within_count t s.bound.items s.counted (bound_within s.bound.items t c.requires.bound))
     (marked_bound_is (slice_index_or s.bound.items t false) t c.requires.bound) (s.fresh s.next (omega arith)) (omega arith) (sets s.scans c.insert.new.self s.next (Some scan) c.in_ok-insert.ensures.updates)
 
 pub returns-in_err-params-clause-err : goal.returns-in_err-params-clause-err
@@ -64,6 +67,7 @@ invariant_of-self-2 g c =
     (subst (λ (z : Spec). (nat_lt t layout_count && allows z) ≡ true) (sym begun.new.spec_is) (rw within may)) in
     let u = sets s.scans c.insert.new.self s.next (Some scan) c.in_ok-insert.ensures.updates in
     record {
+      shaped = s.shaped;
       counted = s.counted;
       idle = s.idle;
       writable = s.writable;
@@ -85,6 +89,7 @@ invariant_of-self g c =
     let s = c.args.self.now in
     let same = same_get s.scans c.insert.new.self c.in_err-insert.ensures.err in
     record {
+      shaped = s.shaped;
       counted = s.counted;
       idle = s.idle;
       writable = s.writable;

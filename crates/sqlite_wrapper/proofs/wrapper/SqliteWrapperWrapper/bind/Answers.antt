@@ -17,7 +17,12 @@ use Rattle.sqlite_wrapper.proofs.wrapper.SqliteWrapperWrapper.bind.Goals as goal
 pub returns-in_default-clause-err : goal.returns-in_default-clause-err
 returns-in_default-clause-err g c =
     let s = c.args.self.now in
-    sqlite_lacks g.S.SourceStore.honest (state g.S.Store s.conn).now s.bound.items s.scans s.staged s.next s.pulled s.faults _ _ _ (sym c.place_of.ensures ∙ c.in_default.is)
+    sqlite_lacks g.S.SourceStore.honest (state g.S.Store s.conn).now s.bound.items s.scans s.staged s.next s.pulled s.faults _ _ _ (sym c.number_of.ensures ∙ c.in_default.is)
+
+pub open_table-requires-clause-within : goal.open_table-requires-clause-within
+open_table-requires-clause-within g c =
+    let s = c.args.self.now in
+    within_count c.in-Some.number s.bound.items s.counted (place_within s.bound.items c.args.remote.now c.in-Some.number s.counted (sym c.number_of.ensures ∙ c.in-Some.is))
 
 pub open_table-requires-clause-known : goal.open_table-requires-clause-known
 open_table-requires-clause-known g c h =
@@ -27,9 +32,29 @@ open_table-requires-clause-known g c h =
 pub invariant_of-self : goal.invariant_of-self
 invariant_of-self g c =
     let s = c.args.self.now in
+    record {
+      shaped = s.shaped;
+      counted = s.counted;
+      idle = s.idle;
+      typed_write = s.typed_write;
+      writable = s.writable;
+      apart = s.apart;
+      named = s.named;
+      there = s.there;
+      counts = s.counts;
+      few = s.few;
+      allowed = s.allowed;
+      fresh = s.fresh;
+      looked = s.looked;
+    }
+
+pub invariant_of-self-in-Err : goal.invariant_of-self-in-Err
+invariant_of-self-in-Err g c =
+    let s = c.args.self.now in
     let db = (state g.S.Store s.conn).now in
     let after = (state g.S.Store c.open_table.new.conn).now in
     record {
+      shaped = s.shaped;
       counted = s.counted;
       idle = c.open_table.ensures.idle;
       typed_write = s.typed_write;
@@ -51,12 +76,12 @@ returns-in-Err-clause-err g c =
     let after = (state g.S.Store c.open_table.new.conn).now in
     rw c.faults_after-self.ensures
     (sqlite_refuses g.S.SourceStore.honest db after s.bound.items s.scans s.staged s.next s.pulled s.faults _ _ _ c.open_table.ensures.same c.in-Some.number c.in-Err.fault
-    (sym c.place_of.ensures ∙ c.in-Some.is) c.in-Err.ensures.refused)
+    (sym c.number_of.ensures ∙ c.in-Some.is) c.in-Err.ensures.refused)
 
 pub index_mut-requires : goal.index_mut-requires
 index_mut-requires g c =
     let s = c.args.self.now in
-    let lt = place_within s.bound.items c.args.remote.now c.in-Some.number s.counted (sym c.place_of.ensures ∙ c.in-Some.is) in
+    let lt = place_within s.bound.items c.args.remote.now c.in-Some.number s.counted (sym c.number_of.ensures ∙ c.in-Some.is) in
     search rules
 
 pub invariant_of-self-2 : goal.invariant_of-self-2
@@ -64,10 +89,11 @@ invariant_of-self-2 g c =
     let s = c.args.self.now in
     let db = (state g.S.Store s.conn).now in
     let after = (state g.S.Store c.open_table.new.conn).now in
-    let place = sym c.place_of.ensures ∙ c.in-Some.is in
+    let place = sym c.number_of.ensures ∙ c.in-Some.is in
     let lt = place_within s.bound.items c.args.remote.now c.in-Some.number s.counted place in
     let within = within_count c.in-Some.number s.bound.items s.counted lt in
     record {
+      shaped = s.shaped;
       counted = search rules;
       idle = c.open_table.ensures.idle;
       typed_write = s.typed_write;
@@ -90,7 +116,7 @@ returns-clause-ok g c =
     let s = c.args.self.now in
     let db = (state g.S.Store s.conn).now in
     let after = (state g.S.Store c.open_table.new.conn).now in
-    let place = sym c.place_of.ensures ∙ c.in-Some.is in
+    let place = sym c.number_of.ensures ∙ c.in-Some.is in
     let lt = place_within s.bound.items c.args.remote.now c.in-Some.number s.counted place in
     sqlite_binds g.S.SourceStore.honest db after s.bound.items s.scans s.staged s.next s.pulled s.faults _ _ _ c.open_table.ensures.same c.in-Some.number lt (within_count c.in-Some.number s.bound.items s.counted lt) c.requires place
     c.in-Ok.ensures.types c.in-Ok.ensures.ok c.in-Ok.ensures.once
@@ -98,7 +124,7 @@ returns-clause-ok g c =
 pub returns-in_default-clause-clean_err : goal.returns-in_default-clause-clean_err
 returns-in_default-clause-clean_err g c steady known =
     let s = c.args.self.now in
-    sqlite_lacks true (state g.S.Store s.conn).now s.bound.items s.scans s.staged s.next s.pulled s.faults _ _ _ (sym c.place_of.ensures ∙ c.in_default.is)
+    sqlite_lacks true (state g.S.Store s.conn).now s.bound.items s.scans s.staged s.next s.pulled s.faults _ _ _ (sym c.number_of.ensures ∙ c.in_default.is)
 
 pub returns-in-Err-clause-clean_err : goal.returns-in-Err-clause-clean_err
 returns-in-Err-clause-clean_err g c steady known =
@@ -109,7 +135,7 @@ returns-in-Err-clause-clean_err g c steady known =
     let sure = clean_sure g.S.Store s.conn c.open_table.new.conn (layout_at c.in-Some.number) steady c.schema-schema.ensures.live reads (known c.in-Some.number) in
     rw c.faults_after-self.ensures
     (sqlite_refuses true db after s.bound.items s.scans s.staged s.next s.pulled s.faults _ _ _ (λ yes. reads.same sure.after sure.known) c.in-Some.number c.in-Err.fault
-    (sym c.place_of.ensures ∙ c.in-Some.is)
+    (sym c.number_of.ensures ∙ c.in-Some.is)
     (both_only _ _ _ c.in-Err.fault (λ cause late least. (late.0, λ yes. least sure)) c.in-Err.ensures.refused c.in-Err.ensures.sure_refused))
 
 pub returns-clause-clean_ok : goal.returns-clause-clean_ok
@@ -117,7 +143,7 @@ returns-clause-clean_ok g c steady known =
     let s = c.args.self.now in
     let db = (state g.S.Store s.conn).now in
     let after = (state g.S.Store c.open_table.new.conn).now in
-    let place = sym c.place_of.ensures ∙ c.in-Some.is in
+    let place = sym c.number_of.ensures ∙ c.in-Some.is in
     let lt = place_within s.bound.items c.args.remote.now c.in-Some.number s.counted place in
     let reads = c.open_table.ensures.reads in
     let sure = clean_sure g.S.Store s.conn c.open_table.new.conn (layout_at c.in-Some.number) steady c.schema-schema.ensures.live reads (known c.in-Some.number) in

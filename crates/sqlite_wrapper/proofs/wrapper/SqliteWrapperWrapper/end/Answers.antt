@@ -16,6 +16,7 @@ invariant_of-self g c =
     let number = c.args.ticket.number in
     let u = sets s.scans c.remove.new.self number None c.remove.ensures.updates in
     record {
+      shaped = s.shaped;
       counted = s.counted;
       idle = s.idle;
       writable = s.writable;

@@ -4,6 +4,7 @@ use Rattle.sqlite.specs.Schema.{Schema}
 use Rattle.fdw_api.specs.Prelude.{faults_after, CanClose, Closes, RefusesClose}
 use Rattle.std.proofs.Math.Logic.{∥∥₁_map}
 use Rattle.wrapper_parts.specs.Staged.{change_is, write_is}
+use Rattle.sqlite_tables.specs.Layouts.{layout_at}
 use Rattle.sqlite_tables.proofs.Refused.{both_only}
 use Rattle.sqlite_writes.proofs.Changed.{entries_ordered}
 use Rattle.wrapper_parts.specs.declared.changes.StagedWrite.{StagedWrite}
@@ -24,6 +25,7 @@ pub invariant_of-self : goal.invariant_of-self
 invariant_of-self g c =
     let s = c.args.self.now in
     record {
+      shaped = s.shaped;
       counted = s.counted;
       idle = s.idle;
       writable = s.writable;
@@ -37,6 +39,15 @@ invariant_of-self g c =
       fresh = s.fresh;
       looked = s.looked;
     }
+
+pub write_rows-requires-clause-within : goal.write_rows-requires-clause-within
+write_rows-requires-clause-within g c =
+    let s = c.args.self.now in
+    let honest = g.S.SourceStore.honest in
+    let db = (state g.S.Store s.conn).now in
+    let can = subst (CanClose (sqlite_state honest db s.bound.items s.scans s.staged s.next s.pulled s.faults)) c.if-not-keep.false c.requires in
+    let is : s.staged ≡ Some c.in-Some.write = sym c.take.ensures.value ∙ c.in-Some.is in
+    within honest db db s.bound.items s.scans s.staged s.next s.pulled s.faults c.in-Some.write s.counted is can
 
 pub write_rows-requires-clause-known : goal.write_rows-requires-clause-known
 write_rows-requires-clause-known g c h =
@@ -67,9 +78,10 @@ invariant_of-self-in-Ok g c =
     let can = subst (CanClose (sqlite_state honest db s.bound.items s.scans s.staged s.next s.pulled s.faults)) c.if-not-keep.false c.requires in
     let is : s.staged ≡ Some c.in-Some.write = sym c.take.ensures.value ∙ c.in-Some.is in
     record {
+      shaped = s.shaped;
       counted = s.counted;
       idle = c.write_rows.ensures.idle;
-      writable = λ t h. subst (λ (k : Schema). ∥ IsWritable k t ∥₁) (sym (c.write_rows.ensures.schema h)) (s.writable t h);
+      writable = λ t h. subst (λ (k : Schema). ∥ IsWritable k (layout_at t) ∥₁) (sym (c.write_rows.ensures.schema h)) (s.writable t h);
       apart = λ h. subst AreApart (sym (c.write_rows.ensures.schema h)) (s.apart h);
       named = subst NamesOnce (sym (ap (option_map write_is) c.take.ensures.after)) none_named;
       there = λ h. subst (λ (o : Option StagedWrite). names_rows (state g.S.Store c.write_rows.new.conn).now (option_map write_is o) ≡ true) (sym c.take.ensures.after) refl;
@@ -93,9 +105,10 @@ invariant_of-self-in-Err g c =
     let db = (state g.S.Store s.conn).now in
     let after = (state g.S.Store c.write_rows.new.conn).now in
     record {
+      shaped = s.shaped;
       counted = s.counted;
       idle = c.write_rows.ensures.idle;
-      writable = λ t h. subst (λ (k : Schema). ∥ IsWritable k t ∥₁) (sym (c.write_rows.ensures.schema h)) (s.writable t h);
+      writable = λ t h. subst (λ (k : Schema). ∥ IsWritable k (layout_at t) ∥₁) (sym (c.write_rows.ensures.schema h)) (s.writable t h);
       apart = λ h. subst AreApart (sym (c.write_rows.ensures.schema h)) (s.apart h);
       named = subst NamesOnce (sym (ap (option_map write_is) c.take.ensures.after)) none_named;
       there = λ h. subst (λ (o : Option StagedWrite). names_rows (state g.S.Store c.write_rows.new.conn).now (option_map write_is o) ≡ true) (sym c.take.ensures.after) refl;
@@ -157,19 +170,19 @@ returns-in-Ok-clause-clean_ok g c before steady may =
       no_scan = may_close.no_scan;
     } in
     let is : s.staged ≡ Some write = sym c.take.ensures.value ∙ c.in-Some.is in
-    let sure : IsSureWrite (state g.S.Store s.conn) (state g.S.Store c.write_rows.new.conn) write.table = record {
+    let sure : IsSureWrite (state g.S.Store s.conn) (state g.S.Store c.write_rows.new.conn) (layout_at write.table) = record {
       after = record { clean = steady.clean; is_open = steady.is_open };
       writable = may.texts write.table;
-      ordered = entries_ordered g.S.Store s.conn write.table before c.schema-schema.ensures.live (may.texts write.table);
+      ordered = entries_ordered g.S.Store s.conn (layout_at write.table) before c.schema-schema.ensures.live (may.texts write.table);
     } in
-    let change : IsSureChange (state g.S.Store s.conn) (state g.S.Store c.write_rows.new.conn) write.table c.count_of-held.result (map change_is write.changes.items) = record {
+    let change : IsSureChange (state g.S.Store s.conn) (state g.S.Store c.write_rows.new.conn) (layout_at write.table) c.count_of-held.result (map change_is write.changes.items) = record {
       sure = sure;
       there = subst (λ (o : Option StagedWrite). names_rows db (option_map write_is o) ≡ true) is may.there;
       count = held_is db s.row_counts.items write.table c.count_of-held.result may.counts_are (within true db db s.bound.items s.scans s.staged s.next s.pulled s.faults write s.counted is can)
           (c.count_of-held.ensures ∙ ap (λ cs. held_for cs write.table) c.deref.ensures.value);
     } in
     let closes = sqlite_closes true db after s.bound.items s.scans s.staged s.next s.pulled s.faults write s.counted is can (λ yes. c.in-Ok.ensures.sure_made change) (λ yes. may.apart)
-    (λ u yes. ∥∥₁_map (may.texts u) (known_by db.schema u)) s.allowed in
+    (λ u yes. ∥∥₁_map (may.texts u) (known_by db.schema (layout_at u))) s.allowed in
     subst (λ (o : Option StagedWrite). Closes old c.args.keep (sqlite_state true after s.bound.items s.scans o s.next s.pulled s.faults)) (sym c.take.ensures.after)
     (subst (λ (k : Bool). Closes old k (sqlite_state true after s.bound.items s.scans None s.next s.pulled s.faults)) (sym keep) closes)
 
@@ -191,12 +204,12 @@ returns-in-Err-clause-clean_err g c before steady may =
       no_scan = may_close.no_scan;
     } in
     let is : s.staged ≡ Some write = sym c.take.ensures.value ∙ c.in-Some.is in
-    let sure : IsSureWrite (state g.S.Store s.conn) (state g.S.Store c.write_rows.new.conn) write.table = record {
+    let sure : IsSureWrite (state g.S.Store s.conn) (state g.S.Store c.write_rows.new.conn) (layout_at write.table) = record {
       after = record { clean = steady.clean; is_open = steady.is_open };
       writable = may.texts write.table;
-      ordered = entries_ordered g.S.Store s.conn write.table before c.schema-schema.ensures.live (may.texts write.table);
+      ordered = entries_ordered g.S.Store s.conn (layout_at write.table) before c.schema-schema.ensures.live (may.texts write.table);
     } in
-    let change : IsSureChange (state g.S.Store s.conn) (state g.S.Store c.write_rows.new.conn) write.table c.count_of-held.result (map change_is write.changes.items) = record {
+    let change : IsSureChange (state g.S.Store s.conn) (state g.S.Store c.write_rows.new.conn) (layout_at write.table) c.count_of-held.result (map change_is write.changes.items) = record {
       sure = sure;
       there = subst (λ (o : Option StagedWrite). names_rows db (option_map write_is o) ≡ true) is may.there;
       count = held_is db s.row_counts.items write.table c.count_of-held.result may.counts_are (within true db db s.bound.items s.scans s.staged s.next s.pulled s.faults write s.counted is can)

@@ -8,6 +8,7 @@ pub invariant_of-self : goal.invariant_of-self
 invariant_of-self g c =
     let s = c.args.self.now in
     record {
+      shaped = s.shaped;
       counted = s.counted;
       idle = s.idle;
       typed_write = typed_after g.S.SourceStore.honest (state g.S.Store s.conn).now s.bound.items s.scans s.staged s.next s.pulled s.faults (Inserts (tuple c.args.row)) c.requires c.add_change.result c.add_change.new.staged s.typed_write c.add_change.ensures.ok c.add_change.ensures.err;

@@ -1,10 +1,12 @@
-use Rattle.std.proofs.Common.{◌∙◌, true, Some, FitsSigned, w64, refl, ap, subst, rules, option_map}
+use Rattle.std.proofs.Common.{◌≡◌, ◌∙◌, true, nat_lt, Some, FitsSigned, w64, refl, sym, ap, subst, rules, option_map}
 use Rattle.std.proofs.lemmas.Int.{to_z-of_z}
 use Rattle.sqlite.specs.Held.{state}
 use Rattle.wrapper_parts.specs.Staged.{write_is}
 use Rattle.sqlite_wrapper.proofs.Kept.{writable_after, apart_after, there_after, counts_after}
 use Rattle.fdw_api.specs.State.{Scan}
-use Rattle.sqlite_tables.specs.Layouts.{layout_at}
+use Rattle.std.proofs.lemmas.Bool.{and_parts}
+use Rattle.sqlite_tables.specs.Layouts.{layout_at, layout_count}
+use Rattle.sqlite_wrapper.specs.Boxes.{allows, asked_of}
 use Rattle.sqlite_tables.proofs.Clean.{clean_sure}
 use Rattle.sqlite_wrapper.specs.Pages.{IsNext, passed}
 use Rattle.sqlite_wrapper.proofs.Maps.{sets, sets_on}
@@ -18,6 +20,14 @@ pub read_page-requires-clause-there : goal.read_page-requires-clause-there
 read_page-requires-clause-there g c =
     let s = c.args.self.now in
     open_there g.S.SourceStore.honest s.bound.items s.staged (state g.S.Store s.conn).now s.scans s.next s.pulled s.faults c.args.ticket.now.number _ c.requires.1
+
+pub read_page-requires-clause-within : goal.read_page-requires-clause-within
+read_page-requires-clause-within g c =
+    let s = c.args.self.now in
+    let number = c.args.ticket.now.number in
+    let is = open_there g.S.SourceStore.honest s.bound.items s.staged (state g.S.Store s.conn).now s.scans s.next s.pulled s.faults number _ c.requires.1 in
+    let w = at_some _ is in
+    some_if _ _ w.0 w.1 (and_parts (nat_lt w.0.table layout_count) (allows (asked_of w.0)) (s.allowed number w.0 w.1)).0
 
 pub read_page-requires-clause-known : goal.read_page-requires-clause-known
 read_page-requires-clause-known g c h =
@@ -51,6 +61,7 @@ invariant_of-self g c =
     let u = sets_copy s.scans c.read_page.new.scans c.spoil.new.scans number (Some (record w.0 { broken = true })) c.in-Err.ensures.same_scans
     (sets c.read_page.new.scans c.spoil.new.scans number (Some (record w.0 { broken = true })) (if_some _ _ w.0 (same_get s.scans c.read_page.new.scans c.in-Err.ensures.same_scans number ∙ w.1) c.spoil.ensures)) in
     record {
+      shaped = s.shaped;
       counted = s.counted;
       idle = c.read_page.ensures.idle;
       typed_write = s.typed_write;
@@ -80,8 +91,8 @@ returns-in-Err-clause-err g c =
     rw c.faults_after-self.ensures
     (breaks_by honest s.bound.items s.staged db s.scans s.next number w.0 w.1 after c.spoil.new.scans s.pulled s.faults c.in-Err.fault (record w.0 { broken = true }) c.in-Err.ensures.refused refl c.read_page.ensures.same u)
 
-pub next_of-requires : goal.next_of-requires
-next_of-requires g c =
+pub next_of-requires-clause-there : goal.next_of-requires-clause-there
+next_of-requires-clause-there g c =
     let s = c.args.self.now in
     let number = c.args.ticket.now.number in
     let honest = g.S.SourceStore.honest in
@@ -90,6 +101,18 @@ next_of-requires g c =
     let w = at_some _ is in
     let t = if_some _ _ w.0 w.1 c.in_default.ensures.turned in
     there_is _ t.0 t.1.0
+
+pub next_of-requires-clause-within : goal.next_of-requires-clause-within
+next_of-requires-clause-within g c =
+    let s = c.args.self.now in
+    let number = c.args.ticket.now.number in
+    let honest = g.S.SourceStore.honest in
+    let db = (state g.S.Store s.conn).now in
+    let is = open_there honest s.bound.items s.staged db s.scans s.next s.pulled s.faults number _ c.requires.1 in
+    let w = at_some _ is in
+    let t = if_some _ _ w.0 w.1 c.in_default.ensures.turned in
+    let may = and_parts (nat_lt w.0.table layout_count) (allows (asked_of w.0)) (s.allowed number w.0 w.1) in
+    some_if _ _ t.0 t.1.0 (subst (λ (z : Scan). nat_lt z.table layout_count ≡ true) (sym t.2.shows) may.0)
 
 pub spoil-requires-in-Err-next_of : goal.spoil-requires-in-Err-next_of
 spoil-requires-in-Err-next_of g c =
@@ -115,6 +138,7 @@ invariant_of-self-in-Err-next_of g c =
     let v = sets c.read_page.new.scans c.spoil-in-Err-next_of.new.scans number (Some (record t.0 { broken = true })) (if_some _ _ t.0 t.1.0 c.spoil-in-Err-next_of.ensures) in
     let u = sets_on s.scans c.read_page.new.scans c.spoil-in-Err-next_of.new.scans number _ _ t.1 v in
     record {
+      shaped = s.shaped;
       counted = s.counted;
       idle = c.read_page.ensures.idle;
       typed_write = s.typed_write;
@@ -155,6 +179,7 @@ invariant_of-self-in-Ok-None g c =
     let after = (state g.S.Store c.read_page.new.conn).now in
     let t = if_some _ _ w.0 w.1 c.in_default.ensures.turned in
     record {
+      shaped = s.shaped;
       counted = s.counted;
       idle = c.read_page.ensures.idle;
       typed_write = s.typed_write;
@@ -208,6 +233,7 @@ invariant_of-self-in-Ok-Some g c =
     let v = sets c.read_page.new.scans c.pass_row.new.scans number (Some (passed t.0 c.in-Ok-Some.next.key)) (rw e at (if_some _ _ t.0 t.1.0 c.pass_row.ensures)) in
     let u = sets_on s.scans c.read_page.new.scans c.pass_row.new.scans number _ _ t.1 v in
     record {
+      shaped = s.shaped;
       counted = s.counted;
       idle = c.read_page.ensures.idle;
       typed_write = s.typed_write;

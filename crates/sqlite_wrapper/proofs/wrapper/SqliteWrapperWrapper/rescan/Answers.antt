@@ -33,8 +33,28 @@ spoil-requires g c =
     let s = c.args.self.now in
     open_there g.S.SourceStore.honest s.bound.items s.staged (state g.S.Store s.conn).now s.scans s.next s.pulled s.faults c.args.ticket.now.number _ c.requires.at
 
-pub entries_rise-requires : goal.entries_rise-requires
-entries_rise-requires g c = record { writable = c.args.self.now.writable c.in-Ok.scan.table }
+pub table_rises-requires-clause-within : goal.table_rises-requires-clause-within
+table_rises-requires-clause-within g c =
+    let s = c.args.self.now in
+    let number = c.args.ticket.now.number in
+    let is = open_there g.S.SourceStore.honest s.bound.items s.staged (state g.S.Store s.conn).now s.scans s.next s.pulled s.faults number _ c.requires.at in
+    let w = at_some _ is in
+    let begun = if_some _ _ w.0 w.1 c.in-Ok.ensures in
+    let may = and_parts (nat_lt w.0.table layout_count) (allows (asked_of w.0)) (s.allowed number w.0 w.1) in
+    subst (λ (t : ℕ). nat_lt t layout_count ≡ true) (sym begun.new.table) may.0
+
+pub table_rises-requires-clause-writable : goal.table_rises-requires-clause-writable
+table_rises-requires-clause-writable g c = c.args.self.now.writable c.in-Ok.scan.table
+
+pub look_up-requires-clause-within : goal.look_up-requires-clause-within
+look_up-requires-clause-within g c =
+    let s = c.args.self.now in
+    let number = c.args.ticket.now.number in
+    let is = open_there g.S.SourceStore.honest s.bound.items s.staged (state g.S.Store s.conn).now s.scans s.next s.pulled s.faults number _ c.requires.at in
+    let w = at_some _ is in
+    let begun = if_some _ _ w.0 w.1 c.in-Ok.ensures in
+    let may = and_parts (nat_lt w.0.table layout_count) (allows (asked_of w.0)) (s.allowed number w.0 w.1) in
+    subst (λ (t : ℕ). nat_lt t layout_count ≡ true) (sym begun.new.table) may.0
 
 pub take_lookup-had-requires : goal.take_lookup-had-requires
 take_lookup-had-requires g c =
@@ -120,7 +140,7 @@ returns-in-Ok-look_up-clause-ok g c =
     let answered = c.in-Ok-look_up.ensures.answered in
     sqlite_rescans honest s.bound.items s.staged db c.in-Ok.scan w.0.table (asked_of w.0) (map datum c.args.params.now) begun may.1
     after s.scans c.put_scan.new.scans s.next s.pulled s.faults number w.0 x c.look_up.ensures.same answered.shows
-    (λ h. answered_coming db c.in-Ok.scan x w.0.table (asked_of w.0) (map datum c.args.params.now) begun may.1 (c.entries_rise.ensures h) (answered.rows h)) w.1 may.0 refl refl u
+    (λ h. answered_coming db c.in-Ok.scan x w.0.table (asked_of w.0) (map datum c.args.params.now) begun may.1 (c.table_rises.ensures h) (answered.rows h)) w.1 may.0 refl refl u
 
 pub returns-in-Err-clause-clean_err : goal.returns-in-Err-clause-clean_err
 returns-in-Err-clause-clean_err g c steady known =
@@ -177,6 +197,7 @@ invariant_of-self g c =
     let w = at_some _ is in
     let u = sets s.scans c.spoil.new.scans c.args.ticket.now.number (Some (record w.0 { broken = true })) (if_some _ _ w.0 w.1 c.spoil.ensures) in
     record {
+      shaped = s.shaped;
       counted = s.counted;
       idle = s.idle;
       typed_write = s.typed_write;
@@ -207,6 +228,7 @@ invariant_of-self-in-Err-look_up g c =
     let u = sets_on s.scans c.take_lookup-had.new.scans c.spoil-in-Err-look_up.new.scans number _ _ took v in
     let n : KeyScan = record w.0 { lookup = None; broken = true } in
     record {
+      shaped = s.shaped;
       counted = s.counted;
       idle = c.look_up.ensures.idle;
       typed_write = s.typed_write;
@@ -241,6 +263,7 @@ invariant_of-self-in-Ok-look_up g c =
     (subst (λ (z : Spec). (nat_lt w.0.table layout_count && allows z) ≡ true) (sym begun.new.spec_is) (s.allowed number w.0 w.1)) in
     let answered = c.in-Ok-look_up.ensures.answered in
     record {
+      shaped = s.shaped;
       counted = s.counted;
       idle = c.look_up.ensures.idle;
       typed_write = s.typed_write;

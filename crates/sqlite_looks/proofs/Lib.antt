@@ -1,0 +1,6 @@
+pub mod Unique
+pub mod PageLemmas
+pub mod Works
+pub mod Meant
+mod Given
+mod Allowed

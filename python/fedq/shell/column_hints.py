@@ -1,0 +1,112 @@
+"""What is said under a result that orders or compares a column whose values go by text, as decimals do and dates that begin with the
+day."""
+from __future__ import annotations
+
+from collections.abc import Iterable, Iterator
+
+from ..names import quoted_name
+from ..notes import ColumnNote
+from .queries import END, ENDS_FROM, entries, is_name, parted, position, with_depth, without_label
+from .statements import Token, tokens
+
+READERS = {"select", "declare", "insert", "update", "delete"}
+ORDERS = {"<", "<=", ">", ">=", "between"}
+EQUALS = {"=", "<>", "!="}
+SAID = {
+    "decimal": "holds decimals as texts: ORDER BY, =, <, >, BETWEEN, min and max go by text, so '10.25' comes before '2.5', and "
+               "'2.50' is not '2.5'; fedq-setup --copy makes whole numbers of them",
+    "day_first_date": "holds dates that do not begin with the year: ORDER BY, <, >, BETWEEN, min and max go by text, so '01/02/2025' comes "
+                      "before '31/12/2024'; write them as 2024-12-31 to order by time",
+    "mixed": "holds numbers or times as texts, in several forms or beside texts: ORDER BY, <, >, BETWEEN, min and max go by text, so '10' "
+             "comes before '9'",
+}
+EMPTY_TEXT = "has empty texts, which are not NULL: IS NULL does not find them, count counts them; {0} = '' finds them"
+
+
+def column_hints(text: str, notes: Iterable[ColumnNote]) -> list[str]:
+    """One line for each noted column that a statement orders, compares, or (of one with empty texts) counts or tests for NULL."""
+    if not notes or len(text) > 20000:
+        return []
+    found = tokens(text)
+    is_read = bool(found) and found[0].kind == "word" and found[0].value in READERS
+    return list(dict.fromkeys(hints_of(found, notes))) if is_read else []
+
+
+def hints_of(found: list[Token], notes: Iterable[ColumnNote]) -> Iterator[str]:
+    """The lines, one for each place where such a column stands."""
+    called = entries(found)
+    names = {(entry, note.column): note for entry, table in called for note in notes if note.table == table}
+    outputs = ordered_outputs(found)
+    for at, it in enumerate(found):
+        if not is_name(it) or found[at + 1:at + 2] == [("mark", ".")]:
+            continue
+        is_qualified = found[at - 1:at] == [("mark", ".")] and at > 1
+        entry = found[at - 2].value if is_qualified else ""
+        fitting = [note for (own, column), note in names.items() if column == it.value and entry in ("", own)]
+        begin = at - 2 if is_qualified else at
+        for note in fitting:
+            if note.kind == "empty_text" and is_counted(found, begin, at):
+                yield f"hint: {quoted_name(note.column)} {EMPTY_TEXT.format(quoted_name(note.column))}"
+            elif note.kind == "decimal" and is_equated(found, begin, at):
+                yield f"hint: {quoted_name(note.column)} {SAID[note.kind]}"
+            elif note.kind in SAID and (at in outputs or is_compared(found, begin, at) or is_ordered(found, at)):
+                yield f"hint: {quoted_name(note.column)} {SAID[note.kind]}"
+
+
+def around(found: list[Token], begin: int, end: int) -> tuple[list[Token], list[Token]]:
+    """The two tokens before a column, the nearest first, and the two after it."""
+    before = [found[at] if at >= 0 else END for at in (begin - 1, begin - 2)]
+    return before, (found[end + 1:end + 3] + [END, END])[:2]
+
+
+def is_counted(found: list[Token], begin: int, end: int) -> bool:
+    """Whether a column is an argument of count, or tested by IS."""
+    before, after = around(found, begin, end)
+    return before[0] == ("mark", "(") and before[1] == ("word", "count") or after[0] == ("word", "is")
+
+
+def is_equated(found: list[Token], begin: int, end: int) -> bool:
+    """Whether a column is an operand of =, <> or !=, or tested by IN, and not what SET gives a value."""
+    before, after = around(found, begin, end)
+    if found[0].value == "update" and before[0] in (("word", "set"), ("mark", ",")):
+        return False
+    is_in = after[0] == ("word", "in") or after == [("word", "not"), ("word", "in")]
+    return is_in or any(it.kind == "mark" and it.value in EQUALS for it in (before[0], after[0]))
+
+
+def is_compared(found: list[Token], begin: int, end: int) -> bool:
+    """Whether a column is an operand of an order, or the argument of min or max."""
+    before, after = around(found, begin, end)
+    is_argument = before[0] == ("mark", "(") and before[1].kind == "word" and before[1].value in ("min", "max")
+    is_between = after[0] == ("word", "not") and after[1] == ("word", "between")
+    is_upper = before[0] == ("word", "and") and "between" in [it.value for it in found[max(0, begin - 4):begin] if it.kind == "word"]
+    return is_argument or is_between or is_upper or any(it.kind in ("mark", "word") and it.value in ORDERS for it in (before[0], after[0]))
+
+
+def ordered_outputs(found: list[Token]) -> set[int]:
+    """The places of columns that are items by themselves, where a key of ORDER BY is the item's name or number."""
+    start = position(found, {"select"}) + 1
+    while found[start:start + 1] in ([("word", "distinct")], [("word", "all")]):
+        start += 1
+    order = position(found, {"order"}, start)
+    keys = [it[0] for it in parted(found[order + 2:position(found, {"limit", "offset"}, order)]) if it]
+    names, places, at, is_counted = {it.value for it in keys if is_name(it)}, set(), start, True
+    for number, item in enumerate(parted(found[start:position(found, ENDS_FROM | {"from"}, start)]), 1):
+        column = without_label(item)
+        is_counted = is_counted and item[-1:] != [("mark", "*")]  # (an asterisk stands for several)
+        is_key = len(item) > len(column) and item[-1].value in names or is_counted and ("number", str(number)) in keys
+        if len(column) in (1, 3) and is_name(column[-1]) and is_key:
+            places.add(at + len(column) - 1)
+        at += len(item) + 1
+    return places
+
+
+def is_ordered(found: list[Token], at: int) -> bool:
+    """Whether a place is in ORDER BY."""
+    clause = ""
+    for place, (it, depth) in enumerate(with_depth(found)):
+        if place == at:
+            return clause == "order"
+        if depth == 0 and it.kind == "word" and it.value in ENDS_FROM | {"from", "select", "union"}:
+            clause = it.value
+    return False
