@@ -11,8 +11,6 @@ pub mod reading;
 pub mod shapes;
 pub mod shaping;
 pub mod terms;
-#[cfg(test)]
-mod tests;
 pub mod texts;
 
 pub use foreign::tables_are_free;
