@@ -1,15 +1,12 @@
 -- What is so of a table that may be written.
 use Rattle.std.proofs.Common.{
   ◌≡◌,
-  List,
   [],
-  ◌∷◌,
   length,
   Bool,
   true,
   false,
   not,
-  ◌&&◌,
   Option,
   Some,
   None,

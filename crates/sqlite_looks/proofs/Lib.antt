@@ -4,3 +4,5 @@ pub mod Works
 pub mod Meant
 mod Given
 mod Allowed
+mod Quoting
+mod Finding

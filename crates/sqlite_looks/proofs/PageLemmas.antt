@@ -280,7 +280,7 @@ module _ (text : List ℕ) (low high : ℤ) (old new : State) (fault : CompileEr
   unread (Ok v) idle up h k = absurd (no_page v.items h)
   unread (Err e) idle up h k = (stays e idle up k, tt)
 
--- a connection that is open behind a query was open before it
+-- a connection that is open after a query was open before it
 module _ (sql : List ℕ) (params : Row) (old new : State) where
   failed_to_run : (what : Option Returning) (e : Error) (c : Compiled) (given : Row) → IsTrue new.is_open
       → FailsToShow old new sql c given e what → IsTrue old.is_open

@@ -4,3 +4,5 @@ pub mod Terms
 pub mod Looks
 pub mod Free
 pub mod Shapes
+pub mod Texts
+pub mod Found

@@ -1,5 +1,5 @@
-//! What is so where a look was passed.
-ghost use Rattle.std.specs.Prelude.{◌≡◌, ℕ, List, [], length, Option, None, true, false, string_bytes};
+//! What is so where a look was passed, and worked texts.
+ghost use Rattle.std.specs.Prelude.{◌≡◌, ◌∷◌, ℕ, List, [], length, Option, None, true, false, string_bytes, codes};
 ghost use Rattle.sqlite.specs.Schema.{Schema};
 ghost use Rattle.sqlite.specs.Order.{Row};
 ghost use Rattle.sqlite_schema.specs.declared.schema.Keys.TheVariants.{Enforced};
@@ -11,6 +11,7 @@ ghost use Rattle.sqlite_looks.specs.Free.{is_free};
 ghost use Rattle.sqlite_looks.specs.Shapes.{cells_of, read_only};
 ghost use Rattle.sqlite_looks.specs.declared.shapes.Texts.{Texts};
 ghost use Rattle.sqlite_looks.specs.Looks.{means_page, means_delete, means_insert};
+ghost use Rattle.sqlite_looks.specs.Texts.{page_text, delete_text, insert_text};
 
 /// A text that passes its look is understood as the query or the change that is wanted.
 pub fn looks_are_meanings()
@@ -41,4 +42,14 @@ pub fn written_tables()
         → IsDeleteText schema (string_bytes texts.delete) at table.tree }
     ensures insert { (schema : Schema) (at : ℕ) (table : Table) (texts : Texts) → read_only schema at table texts ≡ None
         → IsInsertText schema (string_bytes texts.insert) at (cells_of table) (length (cells_of table)) }
+{}
+
+/// The texts of worked tables: a table whose name has double quotes, of two columns, one with a double quote; and one without columns.
+pub fn worked_texts()
+    ensures page { page_text (codes "rowid") (codes "a \"b\"") (codes "x\"y" ∷ codes "z" ∷ [])
+        ≡ codes "SELECT rowid, \"x\"\"y\", \"z\" FROM \"a \"\"b\"\"\" WHERE rowid >= ?1 AND rowid <= ?2 ORDER BY rowid LIMIT 64" }
+    ensures bare { page_text (codes "oid") (codes "t") [] ≡ codes "SELECT oid FROM \"t\" WHERE oid >= ?1 AND oid <= ?2 ORDER BY oid LIMIT 64" }
+    ensures delete { delete_text (codes "oid") (codes "a \"b\"") ≡ codes "DELETE FROM \"a \"\"b\"\"\" WHERE oid = ?1" }
+    ensures insert { insert_text (codes "_rowid_") (codes "a \"b\"") (codes "x\"y" ∷ codes "z" ∷ [])
+        ≡ codes "INSERT INTO \"a \"\"b\"\"\" (_rowid_, \"x\"\"y\", \"z\") VALUES (?, ?, ?)" }
 {}

@@ -6,6 +6,7 @@
 pub mod foreign;
 pub mod law;
 pub mod looks;
+mod naming;
 pub mod plans;
 pub mod reading;
 pub mod shapes;
@@ -17,5 +18,5 @@ pub use foreign::tables_are_free;
 pub use looks::{puts_in, reads_page, takes_out};
 pub use reading::{page, rows_between};
 pub use shapes::{ReadOnly, Shape, ShapeColumn, Texts, look_at};
-pub use shaping::shape_at;
+pub use shaping::{shape_at, shape_called, table_called};
 pub use texts::{delete_text, insert_text, page_text};

@@ -1,6 +1,6 @@
-//! Tables as statements see them: a table is looked at once, with the texts by which it is to be read and changed, and its shape holds what
-//! was found.
-ghost use Rattle.std.specs.Prelude.{◌≡◌, ◌+◌, ◌^◌, ◌<◌, ◌≤◌, ◌∷◌, Some, true, map, is_some, slice_get, string_bytes, IfOk, IfSome};
+//! Tables as statements see them: a table is looked at once, with the texts by which it is to be read and changed, and its shape holds
+//! what was found.
+ghost use Rattle.std.specs.Prelude.{◌≡◌, ◌+◌, ◌^◌, ◌<◌, ◌≤◌, Some, true, map, is_some, slice_get, string_bytes, IfOk, IfSome};
 ghost use Rattle.std.specs.List.{list_all};
 ghost use Rattle.sqlite_schema.specs.declared.schema.Table.{Table};
 ghost use Rattle.sqlite_looks.specs.Looks.{means_page};
