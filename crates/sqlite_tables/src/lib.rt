@@ -4,6 +4,7 @@
 #![tactic(auto)]
 
 pub mod cells;
+pub mod columns;
 pub mod faults;
 pub mod finding;
 pub mod fitting;
@@ -14,11 +15,11 @@ pub mod reading;
 pub mod rows;
 pub mod shapes;
 pub mod steady;
-pub mod store_pages;
 pub mod surveys;
 pub mod tables;
 
 pub use cells::{Keyed, Misread, key_and_cells};
+pub use columns::PageColumn;
 pub use faults::fault_of;
 pub use finding::rows_with;
 pub use fitting::is_of_shape;
@@ -28,6 +29,5 @@ pub use pages::page_between;
 pub use reading::{Lookup, read_lookup};
 pub use shapes::{Shape, shipped_shapes};
 pub use steady::{SourceStore, page_of, sound_stores_are_steady};
-pub use store_pages::page;
 pub use surveys::{count_rows, next_after};
 pub use tables::find_table;
