@@ -9,8 +9,8 @@ use Rattle.sqlite.specs.View.{IsShaped, is_int}
 use Rattle.sqlite_trees.specs.declared.store.Shape.TheVariants as shape
 use Rattle.sqlite_trees.proofs.ListLemmas.{all-filter}
 use Rattle.sqlite_catalog.proofs.LayoutLemmas.{ascending_filter}
-use Rattle.sqlite_tables.specs.StoreShapes.{in_range, key_of, paged}
-use Rattle.sqlite_tables.specs.Layouts.{Layout}
+use Rattle.sqlite_looks.specs.Pages.{in_range, key_of, paged}
+use Rattle.sqlite_tables.specs.Layouts.{Layout, places}
 use Rattle.sqlite_tables.specs.Cells.{id_of, row_in, rows_in, least, greatest}
 use Rattle.sqlite_tables.proofs.PagesJoin.{Inside, Ints, key_fits, lower, inside_filter}
 
@@ -26,14 +26,14 @@ apart a b fa fb lt = go (id_of a) (id_of b) (nat_eq (id_of a) (id_of b)) refl (�
 
 module _ (l : Layout) where
   others : (r : SqlRow) (es : List SqlRow) → in_range least greatest r ≡ true → IsTrue (is_int (rowid r)) → AllByRecursion (λ e. value_cmp (rowid r) (rowid e) ≡ Less) es
-      → Inside least greatest es → Ints es → AllByRecursion (λ y. nat_eq (id_of (key_of r)) y ≡ false) (map (λ x. x.id) (map (row_in l) (map paged es)))
+      → Inside least greatest es → Ints es → AllByRecursion (λ y. nat_eq (id_of (key_of r)) y ≡ false) (map (λ x. x.id) (map (row_in l) (map (paged (places l)) es)))
   others r [] at is up inside ints_are = tt
   others r (e ∷ es) at is up inside ints_are = (
     apart (key_of r) (key_of e) (key_fits (key_of r) at) (key_fits (key_of e) inside.0) (lower (rowid r) (rowid e) is ints_are.0 up.0),
     others r es at is up.1 inside.1 ints_are.1,
   )
 
-  each_once : (es : List SqlRow) → Inside least greatest es → IsTable es → Ints es → IsDistinct nat_eq (map (λ x. x.id) (map (row_in l) (map paged es)))
+  each_once : (es : List SqlRow) → Inside least greatest es → IsTable es → Ints es → IsDistinct nat_eq (map (λ x. x.id) (map (row_in l) (map (paged (places l)) es)))
   unfolding IsDistinct
   each_once [] inside up ints_are = tt
   each_once (r ∷ es) inside up ints_are = (others r es inside.0 ints_are.0 up.0 inside.1 ints_are.1, each_once es inside.1 up.1 ints_are.1)

@@ -1,4 +1,4 @@
--- A table of a store that does is in the order of its keys.
+-- A table of a steady store is in the order of its keys.
 use Rattle.std.proofs.Common.{◌≡◌, ℕ, Bool, List, refl, true, false, sym, subst, ap, IsTrue, ◌∙◌}
 use Rattle.sqlite_trees.specs.declared.store.Store.{Ghosts}
 use Rattle.sqlite_trees.specs.View.{View, IsClean, IsOrdered, doubt}
@@ -10,11 +10,12 @@ use Rattle.sqlite.specs.State.{IsLive}
 use Rattle.sqlite.specs.Held.{Held, state}
 use Rattle.sqlite_rules.proofs.ListLemmas.{has_got}
 use Rattle.sqlite_catalog.proofs.LayoutLemmas.{objects_rise, table_shape}
-use Rattle.sqlite_tables.specs.StoreShapes.{IsPageText}
 use Rattle.sqlite_tables.specs.Steady.{IsSteady}
+use Rattle.sqlite_tables.specs.Texts.{IsPageOf}
 
-pub steady_table : {S : Type 0} (g : Ghosts S) (c : Held S) (text : List ℕ) (tree : ℕ) → IsSteady (g.view c.store) → IsLive (state g c) → IsPageText c.schema text tree → IsShaped shape.Table ((g.view c.store).trees tree)
-steady_table g c text tree steady live is =
+pub steady_table : {S : Type 0} (g : Ghosts S) (c : Held S) (text : List ℕ) (tree : ℕ) (shown : List ℕ) → IsSteady (g.view c.store) → IsLive (state g c)
+    → IsPageOf c.schema text tree shown → IsShaped shape.Table ((g.view c.store).trees tree)
+steady_table g c text tree shown steady live is =
     let sound = (live steady.is_open).0 in
     let v = g.view c.store in
     let rise = (objects_rise v steady.listed steady.ordered).0 in

@@ -1,6 +1,8 @@
 //! Pages of remote tables, by key range.
 ghost use Rattle.std.specs.Prelude.{◌≡◌, ◌≢◌, ◌++◌, true, false, None, take, IfOk, IfErr, OnOk};
 ghost use Rattle.sqlite.specs.Held.{state};
+ghost use Rattle.sqlite.specs.View.{IsShaped};
+ghost use Rattle.sqlite_trees.specs.declared.store.Shape.TheVariants as stored;
 ghost use Rattle.fdw_api.specs.Calls.{not_refused};
 ghost use Rattle.sqlite_looks.specs.Pages.{range_of};
 ghost use Rattle.sqlite_tables.specs.Layouts.{places};
@@ -34,6 +36,7 @@ pub fn page_between<S: SourceStore>(
     ensures joins { S.honest ≡ true
         → IfOk result (λ rows. range_of (places shape.now) low high (entries_of (state S.Store conn.old).now shape.now)
         ≡ rows.items ++ rest_of shape.now low high (entries_of (state S.Store conn.old).now shape.now) rows.items) }
+    ensures ordered { S.honest ≡ true → IsShaped stored.Table (entries_of (state S.Store conn.old).now shape.now) }
     ensures read { S.honest ≡ true → OnOk result (tree_of (state S.Store conn.old).now.schema shape.now ≢ None) }
     ensures refused { IfErr result not_refused }
     ensures same { S.honest ≡ true → (state S.Store conn.new).now ≡ (state S.Store conn.old).now }

@@ -1,13 +1,14 @@
-use Rattle.std.proofs.Common.{◌≡◌, ◌∙◌, sym, subst, refl, rules, arith, true, Some, FitsSigned, w64}
+use Rattle.std.proofs.Common.{◌≡◌, ◌∙◌, inl, inr, sym, subst, refl, rules, arith, true, false, Some, FitsSigned, w64}
 use Rattle.std.proofs.lemmas.Int.{to_z-of_z}
 use Rattle.sqlite.specs.Held.{state}
 use Rattle.med_value.specs.Causes.{phase_of}
 use Rattle.med_value.specs.declared.cause.Cause.{Cause}
 use Rattle.fdw_api.specs.Kinds.{is_of_run}
-use Rattle.sqlite_tables.specs.Cells.{least}
+use Rattle.sqlite_tables.specs.Cells.{greatest, is_paged, least}
 use Rattle.sqlite_tables.specs.Tables.{entries_of}
 use Rattle.sqlite_tables.proofs.Settled.{known_after, reads_none, reads_then, sure_first, sure_then, sure_same}
 use Rattle.sqlite_tables.proofs.Refused.{only_more, both_only}
+use Rattle.sqlite_tables.proofs.Reported.{page_reported}
 use Rattle.sqlite_tables.proofs.Surveying.{seen_none, seen_further, stray_further, seen_whole, seen_count, many_stand}
 use Rattle.sqlite_tables.proofs.surveys.read_whole.Goals as goal
 
@@ -127,3 +128,14 @@ pub returns-clause-sure_count : goal.returns-clause-sure_count
 returns-clause-sure_count g c h =
     let l = c.args.shape.now in
     seen_count l (entries_of (state g.S.Store c.args.conn.now).now l) c.loop-next.next c.loop-next.count c.in_default.is (c.loop-next.invariant.sure_seen h)
+
+pub returns-in-Err-clause-reported : goal.returns-in-Err-clause-reported
+returns-in-Err-clause-reported g c =
+    let fits : FitsSigned w64 c.in-Some.low = search rules in
+    let e = to_z-of_z w64 c.in-Some.low fits in
+    let l = c.args.shape.now in
+    page_reported g.S.Store g.S.SourceStore.honest l (state g.S.Store c.args.conn.now) c.loop-next.conn (state g.S.Store c.survey_page.new.conn)
+    c.in-Some.low greatest (is_paged l ≡ false) c.in-Err.fault c.loop-next.invariant.reads (rw e at c.in-Err.ensures.reported) c.survey_page.ensures.reads
+
+pub returns-then-count-gt-ROW_LIMIT-clause-reported : goal.returns-then-count-gt-ROW_LIMIT-clause-reported
+returns-then-count-gt-ROW_LIMIT-clause-reported g c = inr (inr (inl refl))

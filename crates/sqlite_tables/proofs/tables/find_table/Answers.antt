@@ -1,5 +1,7 @@
-use Rattle.std.proofs.Common.{◌≡◌, true, false, rules}
+use Rattle.std.proofs.Common.{◌≡◌, ℕ, pos, List, [], ◌∷◌, inl, inr, true, false, refl, subst, rules}
 use Rattle.sqlite.specs.Held.{state}
+use Rattle.sqlite.specs.State.{FailsToQuery}
+use Rattle.sqlite.specs.declared.types.Value.TheVariants.{Int}
 use Rattle.sqlite_tables.specs.Fitting.{is_of_shape}
 use Rattle.sqlite_tables.specs.Tables.{entries_of}
 use Rattle.sqlite_tables.proofs.Once.{ids_once}
@@ -34,7 +36,7 @@ returns-in-Err-clause-refused g c =
       λ h.
           unread_is_none c.args.conn.now.schema c.args.shape.now
           (was_refused (state g.S.Store c.args.conn.now).now c.args.shape.now c.page_text.result.now c.page_text.ensures (c.requires.known h)
-          (λ tree is. c.in-Err.ensures.understood h tree is by.1.0 by.1.1)),
+          (λ tree shown is. c.in-Err.ensures.understood h tree shown is by.1.0 by.1.1)),
     ))
     c.fault_of_text.ensures.refused
 
@@ -79,7 +81,7 @@ returns-in-Err-clause-sure_refused g c =
     (λ cause by after known.
     unread_is_none c.args.conn.now.schema c.args.shape.now
     (was_refused (state g.S.Store c.args.conn.now).now c.args.shape.now c.page_text.result.now c.page_text.ensures known
-    (λ tree is. c.in-Err.ensures.clean_understood after tree is by.1.0 by.1.1)))
+    (λ tree shown is. c.in-Err.ensures.clean_understood after tree shown is by.1.0 by.1.1)))
     c.fault_of_text.ensures.refused
 
 pub returns-in-Ok-clause-reads : goal.returns-in-Ok-clause-reads
@@ -96,3 +98,17 @@ pub returns-in-Err-clause-reads : goal.returns-in-Err-clause-reads
 returns-in-Err-clause-reads g c =
     page_reads (state g.S.Store c.args.conn.now) (state g.S.Store c.page_of.new.conn) c.args.shape.now c.page_text.result.now c.page_text.ensures c.page_of.ensures.was_clean
     c.page_of.ensures.clean_same c.page_of.ensures.clean_unread
+
+pub returns-in-Ok-2-clause-reported : goal.returns-in-Ok-2-clause-reported
+returns-in-Ok-2-clause-reported g c = inl refl
+
+pub returns-in-Err-clause-reported : goal.returns-in-Err-clause-reported
+returns-in-Err-clause-reported g c = elim c.fault_of_text.ensures.is [
+  | inl missing ↦ inl missing
+  | inr failure ↦ inr (
+    c.in-Err.error,
+    failure,
+    λ clean. subst (λ (text : List ℕ). FailsToQuery text (Int (pos 1) ∷ Int (pos 0) ∷ []) (state g.S.Store c.args.conn.now)
+        (state g.S.Store c.page_of.new.conn) c.in-Err.error) c.page_text.ensures (c.in-Err.ensures.reported clean),
+  )
+]
