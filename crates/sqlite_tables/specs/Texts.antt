@@ -82,8 +82,8 @@ pub record IsInsertInto (schema : Schema) (text : List ℕ) (tree : ℕ) (cells 
   pub uncounted : target.table.is_counted ≡ false
   pub unstamped : target.table.stamps.terms ≡ []
 
--- the parameters of the columns of a row that is put in, from the next on: the key is parameter 0, and the columns that are not the key have
--- the parameters after it, in their order
+-- the parameters of the columns of a row that is put in, from the next on: the key is parameter 0, and the columns that are not the key
+-- have the parameters after it, in their order
 abbrev pub parameters_from : ℕ → List PageColumn → List ℕ
 parameters_from next [] = []
 parameters_from next (c ∷ cs) = if is_key c then 0 ∷ parameters_from next cs else next ∷ parameters_from (next + 1) cs
