@@ -1,39 +1,6 @@
 -- What a failure to read a table says of the errors that were reported, and of the table.
-use Rattle.std.proofs.Common.{
-  ◌≡◌,
-  ◌≢◌,
-  ◌⊎◌,
-  inl,
-  inr,
-  ℕ,
-  ℤ,
-  zero,
-  suc,
-  Bool,
-  true,
-  false,
-  ◌&&◌,
-  nat_lt,
-  List,
-  [],
-  ◌∷◌,
-  map,
-  filter,
-  take,
-  length,
-  IsTrue,
-  Result,
-  Ok,
-  Err,
-  IfErr,
-  Contains,
-  refl,
-  ap,
-  sym,
-  ◌∙◌,
-  subst,
-  arith,
-}
+use Rattle.std.proofs.Common.{◌≡◌, ◌≢◌, ◌⊎◌, inl, inr, ℕ, ℤ, zero, suc, Bool, true, false, ◌&&◌, List, [], ◌∷◌, map, filter, take, IsTrue}
+use Rattle.std.proofs.Common.{Result, Ok, Err, IfErr, Contains, refl, ap, sym, ◌∙◌, subst, arith}
 use Rattle.std.proofs.lemmas.List.{length-map}
 use Rattle.std.specs.List.{AllByRecursion, list_all}
 use Rattle.sqlite.specs.declared.types.Value.{Value}
@@ -53,14 +20,13 @@ use Rattle.fdw_api.specs.declared.interface.Fault.{Fault}
 use Rattle.fdw_api.specs.declared.interface.Fault.TheVariants.{NoMemory, Source, Refused}
 use Rattle.sqlite_tables.specs.declared.cells.Misread.{Misread}
 use Rattle.sqlite_tables.specs.declared.cells.Misread.TheVariants as misread
-use Rattle.sqlite_tables.specs.declared.columns.PageColumn.{PageColumn}
 use Rattle.sqlite_tables.specs.Layouts.{Layout, places}
 use Rattle.sqlite_tables.specs.Cells.{are_below, is_int as has_number, is_paged, is_row}
 use Rattle.sqlite_tables.specs.Refusing.{OnlyBy}
-use Rattle.sqlite_tables.specs.Reporting.{FailsToCount, FailsToRead, IsReportedPage, IsSourceFor, IsUnfit}
+use Rattle.sqlite_tables.specs.Reporting.{FailsToCount, FailsToRead, IsReportedPage, IsSourceFor}
 use Rattle.sqlite_tables.specs.Surveys.{causes_in}
 use Rattle.sqlite_tables.specs.Tables.{IsSure, ReadsOnly, entries_of}
-use Rattle.sqlite_tables.proofs.Settled.{reads_then, sure_then}
+use Rattle.sqlite_tables.proofs.Settled.{sure_then}
 
 -- an error that is reported where the disk is clean
 pub reported_if : {A E : Type 0} (r : Result A E) (P : Type 0) (Q : E → Type 0) → (P → IfErr r Q) → IfErr r (λ e. P → Q e)

@@ -1,4 +1,4 @@
-use Rattle.std.proofs.Common.{◌≡◌, sym, ◌∙◌}
+use Rattle.std.proofs.Common.{sym, ◌∙◌}
 use Rattle.sqlite.specs.Held.{state}
 use Rattle.sqlite_tables.proofs.Reported.{memory_reported, source_reported}
 use Rattle.sqlite_tables.proofs.surveys.count_rows.Goals as goal
