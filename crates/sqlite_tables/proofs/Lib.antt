@@ -5,11 +5,10 @@ pub mod Settled
 pub mod Clean
 pub mod Strays
 pub mod Refused
+pub mod Reported
 pub mod Found
-pub mod Unique
-pub mod PageLemmas
 pub mod StoreTables
 pub mod Surveying
 pub mod Opened
-pub mod Columns
+pub mod ColumnReads
 pub mod Singles

@@ -1,5 +1,7 @@
--- Pages: the rows of a key range are those of its first page, and behind a full page those of the keys behind it.
-use Rattle.std.proofs.Common.{◌≡◌, ℕ, ℤ, pos, zero, suc, ◌+ℤ◌, ◌≤◌, ◌≤ℤ◌, ◌<ℤ◌, Bool, true, false, cond, ◌&&◌, if◌then◌else◌, nat_eq, List, [], ◌∷◌, ◌++◌, map, filter, take, drop, length, IsTrue, append-nil, FitsSigned, w64, refl, ap, sym, ◌∙◌, arith}
+-- Pages: the rows of a key range are those of its first page, and after a full page those of the keys after it.
+use Rattle.std.proofs.Common.{◌≡◌, ℕ, ℤ, pos, zero, suc, ◌+ℤ◌, ◌≤◌, ◌≤ℤ◌, ◌<ℤ◌, Bool, true, false, cond, ◌&&◌, if◌then◌else◌, nat_eq}
+use Rattle.std.proofs.Common.{List, [], ◌∷◌, ◌++◌, map, filter, take, drop, length, IsTrue, append-nil, FitsSigned, w64, refl, ap, sym}
+use Rattle.std.proofs.Common.{◌∙◌, arith}
 use Rattle.std.proofs.lemmas.Int.{ints}
 use Rattle.std.proofs.lemmas.List.{take-map, take-append-drop, length-take}
 use Rattle.std.specs.declared.cmp.Ordering.{Ordering}
@@ -17,7 +19,8 @@ use Rattle.sqlite_trees.specs.declared.store.Shape.TheVariants as shape
 use Rattle.sqlite_trees.proofs.ListLemmas.{filter-filter, filter_all, all-filter}
 use Rattle.sqlite_catalog.proofs.LayoutLemmas.{ascending_filter}
 use Rattle.sqlite_value.proofs.OrderLemmas.{value_cmp-Int}
-use Rattle.sqlite_tables.specs.StoreShapes.{in_range, key_of, range_of, paged}
+use Rattle.sqlite_looks.specs.Pages.{in_range, key_of, range_of, paged}
+use Rattle.sqlite_tables.specs.Layouts.{Layout, places}
 use Rattle.sqlite_tables.specs.Cells.{least, greatest}
 use Rattle.sqlite_tables.specs.Tables.{behind, rest_of}
 
@@ -82,52 +85,65 @@ abbrev pub Inside : ℤ → ℤ → List SqlRow → Type 0
 Inside low high = AllByRecursion (λ r. in_range low high r ≡ true)
 
 module _ (high : ℤ) where
-  -- the rows behind a row are in the range behind its key
-  after : (low : ℤ) (r : SqlRow) (es : List SqlRow) → IsTrue (is_int (rowid r)) → AllByRecursion (λ e. value_cmp (rowid r) (rowid e) ≡ Less) es → Ints es → Inside low high es
-      → Inside (key_of r +ℤ pos 1) high es
+  -- the rows after a row are in the range after its key
+  after : (low : ℤ) (r : SqlRow) (es : List SqlRow) → IsTrue (is_int (rowid r))
+      → AllByRecursion (λ e. value_cmp (rowid r) (rowid e) ≡ Less) es
+      → Ints es → Inside low high es → Inside (key_of r +ℤ pos 1) high es
   after low r [] h up ints_are inside = tt
   after low r (e ∷ es) h up ints_are inside = (
-    within (key_of r +ℤ pos 1) high (key_of e) (up_one (key_of r) (key_of e) (lower (rowid r) (rowid e) h ints_are.0 up.0)) (at_most low high (key_of e) inside.0),
+    within (key_of r +ℤ pos 1) high (key_of e) (up_one (key_of r) (key_of e) (lower (rowid r) (rowid e) h ints_are.0 up.0))
+        (at_most low high (key_of e) inside.0),
     after low r es h up.1 ints_are.1 inside.1,
   )
-
-  rises : (low : ℤ) (n : ℕ) (es : List SqlRow) → Inside low high es → IsTable es → Ints es → low ≤ℤ behind low (map paged (take n es))
-  rises low zero es inside up ints_are = same_low low
-  rises low (suc n) [] inside up ints_are = same_low low
-  rises low (suc n) (r ∷ es) inside up ints_are =
-      chain low (key_of r) _ (at_least low high (key_of r) inside.0) (rises (key_of r +ℤ pos 1) n es (after low r es ints_are.0 up.0 ints_are.1 inside.1) up.1 ints_are.1)
-
-  drops : (low : ℤ) (n : ℕ) (es : List SqlRow) → Inside low high es → IsTable es → Ints es → filter (in_range (behind low (map paged (take n es))) high) es ≡ drop n es
-  drops low zero es inside up ints_are = filter_all (in_range low high) es inside
-  drops low (suc n) [] inside up ints_are = refl
-  drops low (suc n) (r ∷ es) inside up ints_are =
-      let inner = after low r es ints_are.0 up.0 ints_are.1 inside.1 in
-      let m = behind (key_of r +ℤ pos 1) (map paged (take n es)) in
-      let out : in_range m high r ≡ false = below_low m high (key_of r) (one_up (key_of r) m (rises (key_of r +ℤ pos 1) n es inner up.1 ints_are.1)) in
-      rw out (drops (key_of r +ℤ pos 1) n es inner up.1 ints_are.1)
 
   pub inside_filter : (low : ℤ) (es : List SqlRow) → Inside low high (filter (in_range low high) es)
   inside_filter low [] = tt
   inside_filter low (r ∷ es) = go (inside_filter low es) (in_range low high r) refl
     where
-      go : Inside low high (filter (in_range low high) es) → (b : Bool) → in_range low high r ≡ b → Inside low high (cond b (r ∷ filter (in_range low high) es) (filter (in_range low high) es))
+      go : Inside low high (filter (in_range low high) es) → (b : Bool) → in_range low high r ≡ b
+          → Inside low high (cond b (r ∷ filter (in_range low high) es) (filter (in_range low high) es))
       go more true e = (e, more)
       go more false e = more
 
-  -- the rows behind the first n are those of the keys behind them
+module _ (l : Layout) (high : ℤ) where
+  abbrev seen : List SqlRow → List SqlRow
+  seen = map (paged (places l))
+
+  rises : (low : ℤ) (n : ℕ) (es : List SqlRow) → Inside low high es → IsTable es → Ints es → low ≤ℤ behind low (seen (take n es))
+  rises low zero es inside up ints_are = same_low low
+  rises low (suc n) [] inside up ints_are = same_low low
+  rises low (suc n) (r ∷ es) inside up ints_are =
+      chain low (key_of r) _ (at_least low high (key_of r) inside.0)
+      (rises (key_of r +ℤ pos 1) n es (after high low r es ints_are.0 up.0 ints_are.1 inside.1) up.1 ints_are.1)
+
+  drops : (low : ℤ) (n : ℕ) (es : List SqlRow) → Inside low high es → IsTable es → Ints es
+      → filter (in_range (behind low (seen (take n es))) high) es ≡ drop n es
+  drops low zero es inside up ints_are = filter_all (in_range low high) es inside
+  drops low (suc n) [] inside up ints_are = refl
+  drops low (suc n) (r ∷ es) inside up ints_are =
+      let inner = after high low r es ints_are.0 up.0 ints_are.1 inside.1 in
+      let m = behind (key_of r +ℤ pos 1) (seen (take n es)) in
+      let out : in_range m high r ≡ false =
+      below_low m high (key_of r) (one_up (key_of r) m (rises (key_of r +ℤ pos 1) n es inner up.1 ints_are.1)) in
+      rw out (drops (key_of r +ℤ pos 1) n es inner up.1 ints_are.1)
+
+  -- the rows after the first n are those of the keys after them
   pub behind_page : (low : ℤ) (n : ℕ) (entries : List SqlRow) → IsShaped shape.Table entries
-      → range_of (behind low (take n (range_of low high entries))) high entries ≡ drop n (range_of low high entries)
+      → range_of (places l) (behind low (take n (range_of (places l) low high entries))) high entries ≡ drop n
+      (range_of (places l) low high entries)
   behind_page low n entries shaped =
       let es = filter (in_range low high) entries in
-      let inside = inside_filter low entries in
+      let inside = inside_filter high low entries in
       let up = ascending_filter _ (in_range low high) entries shaped.0 in
       let ints_are = all-filter (λ r. IsTrue (is_int (rowid r))) (in_range low high) entries shaped.1 in
-      let m = behind low (map paged (take n es)) in
-      let first : take n (range_of low high entries) ≡ map paged (take n es) = take-map paged n es in
-      let wider = filter-filter (in_range m high) (in_range low high) (λ r e. narrower low m high (key_of r) (rises low n es inside up ints_are) e) entries in
-      ap (λ (p : List SqlRow). range_of (behind low p) high entries) first ∙ ap (map paged) (sym wider ∙ drops low n es inside up ints_are) ∙ drop_map n es
+      let m = behind low (seen (take n es)) in
+      let first : take n (range_of (places l) low high entries) ≡ seen (take n es) = take-map (paged (places l)) n es in
+      let wider = filter-filter (in_range m high) (in_range low high)
+      (λ r e. narrower low m high (key_of r) (rises low n es inside up ints_are) e) entries in
+      ap (λ (p : List SqlRow). range_of (places l) (behind low p) high entries) first
+      ∙ ap (map (paged (places l))) (sym wider ∙ drops low n es inside up ints_are) ∙ drop_map n es
     where
-      drop_map : (n : ℕ) (es : List SqlRow) → map paged (drop n es) ≡ drop n (map paged es)
+      drop_map : (n : ℕ) (es : List SqlRow) → seen (drop n es) ≡ drop n (seen es)
       drop_map zero es = refl
       drop_map (suc n) [] = refl
       drop_map (suc n) (e ∷ es) = drop_map n es
@@ -142,11 +158,15 @@ short_page : (xs : List SqlRow) → nat_eq (length (take 64 xs)) 64 ≡ false �
 short_page xs short = take_short 64 xs (let n = length-take 64 xs in grind arith)
 
 -- the theorem of pages
-pub pages_join : (low high : ℤ) (entries page : List SqlRow) → IsShaped shape.Table entries → page ≡ take 64 (range_of low high entries)
-    → range_of low high entries ≡ page ++ rest_of low high entries page
-pages_join low high entries page shaped is = rw is (go (range_of low high entries) (behind_page high low 64 entries shaped) (nat_eq (length (take 64 (range_of low high entries))) 64) refl)
+pub pages_join : (l : Layout) (low high : ℤ) (entries page : List SqlRow) → IsShaped shape.Table entries
+    → page ≡ take 64 (range_of (places l) low high entries)
+    → range_of (places l) low high entries ≡ page ++ rest_of l low high entries page
+pages_join l low high entries page shaped is =
+    let rows = range_of (places l) low high entries in
+    rw is (go rows (behind_page l high low 64 entries shaped) (nat_eq (length (take 64 rows)) 64) refl)
   where
-    go : (xs : List SqlRow) → range_of (behind low (take 64 xs)) high entries ≡ drop 64 xs → (b : Bool) → nat_eq (length (take 64 xs)) 64 ≡ b
-        → xs ≡ take 64 xs ++ (if b then range_of (behind low (take 64 xs)) high entries else [])
+    go : (xs : List SqlRow) → range_of (places l) (behind low (take 64 xs)) high entries ≡ drop 64 xs → (b : Bool)
+        → nat_eq (length (take 64 xs)) 64 ≡ b
+        → xs ≡ take 64 xs ++ (if b then range_of (places l) (behind low (take 64 xs)) high entries else [])
     go xs on true e = rw on (sym (take-append-drop 64 xs))
     go xs on false e = sym (append-nil (take 64 xs) ∙ short_page xs e)

@@ -1,27 +1,86 @@
--- The remote tables of a SQLite source: their names, types and texts.
-use Rattle.std.specs.Prelude.{ℕ, Bool, true, false, ◌&&◌, List, [], ◌∷◌, length, Option, slice_index_or, codes, bytes_eq}
+-- The remote tables of a SQLite source: their names, columns, places and texts.
+use Rattle.std.specs.Prelude.{
+  ℕ,
+  Bool,
+  true,
+  false,
+  not,
+  ◌&&◌,
+  nat_eq,
+  List,
+  [],
+  ◌∷◌,
+  map,
+  filter,
+  length,
+  Option,
+  Some,
+  None,
+  slice_get,
+  slice_index_or,
+  codes,
+  bytes_eq,
+}
 use Rattle.std.specs.List.{position}
 use Rattle.med_value.specs.declared.value.ColType.{ColType}
 use Rattle.med_value.specs.declared.value.ColType.TheVariants as types
+use Rattle.sqlite_tables.specs.declared.columns.PageColumn.{PageColumn}
 
--- a remote table: its name, the types of its two columns beside the key, the text that reads a page of it, the text that takes the row of a
--- key out, and the text that puts a row in
+-- a remote table: its name, its columns, the places of a stored row that a page shows after the rowid, the cells that an INSERT stores
+-- after the rowid, each a parameter or NULL, and three texts: the one that reads a page, the one that takes the row of a key out, and the
+-- one that puts a row in. A column has its place in a row of a page, where 0 is the key, and its type
 pub record Layout : Type 0 where
   pub name : List ℕ
-  pub second : ColType
-  pub third : ColType
+  pub columns : List PageColumn
+  pub shown : List ℕ
+  pub cells : List (Option ℕ)
   pub page : List ℕ
   pub deleting : List ℕ
   pub inserting : List ℕ
 
+-- the types of columns, in their order
+abbrev pub kinds_at : List PageColumn → List ColType
+kinds_at columns = map (λ c. c.kind) columns
+
 abbrev pub kinds_in : Layout → List ColType
-kinds_in l = types.Int ∷ l.second ∷ l.third ∷ []
+kinds_in l = kinds_at l.columns
+
+-- what a page shows of a stored row, by places: the rowid, whose place is 0, first
+abbrev pub places : Layout → List ℕ
+places l = 0 ∷ l.shown
+
+-- a column at place 0 is the key
+abbrev pub is_key : PageColumn → Bool
+is_key c = nat_eq c.place 0
+
+abbrev pub is_some_key : Option PageColumn → Bool
+is_some_key None = false
+is_some_key (Some c) = is_key c
+
+-- the column at this number is the key
+abbrev pub is_key_column : Layout → ℕ → Bool
+is_key_column l at = is_some_key (slice_get l.columns at)
+
+-- the number of the first column that is the key, if one is
+abbrev pub key_column : Layout → Option ℕ
+key_column l = position is_key l.columns
+
+-- the columns that are not the key, in their order
+abbrev pub further_columns : Layout → List PageColumn
+further_columns l = filter (λ c. not (is_key c)) l.columns
+
+abbrev pub further_kinds : Layout → List ColType
+further_kinds l = kinds_at (further_columns l)
+
+abbrev pub column_at : ℕ → ColType → PageColumn
+column_at place kind = record { place = place; kind = kind }
 
 abbrev pub orders : Layout
 orders = record {
   name = codes "orders";
-  second = types.Int;
-  third = types.Int;
+  columns = column_at 0 types.Int ∷ column_at 1 types.Int ∷ column_at 2 types.Int ∷ [];
+  shown = 2 ∷ 3 ∷ [];
+  cells = None ∷ Some 1 ∷ Some 2 ∷ [];
   page = codes "SELECT id, part, n FROM orders WHERE id >= ?1 AND id <= ?2 ORDER BY id LIMIT 64";
   deleting = codes "DELETE FROM orders WHERE id = ?1";
   inserting = codes "INSERT INTO orders (id, part, n) VALUES (?1, ?2, ?3)";
@@ -30,8 +89,9 @@ orders = record {
 abbrev pub people : Layout
 people = record {
   name = codes "people";
-  second = types.Text;
-  third = types.Bool;
+  columns = column_at 0 types.Int ∷ column_at 1 types.Text ∷ column_at 2 types.Bool ∷ [];
+  shown = 2 ∷ 3 ∷ [];
+  cells = None ∷ Some 1 ∷ Some 2 ∷ [];
   page = codes "SELECT id, name, active FROM people WHERE id >= ?1 AND id <= ?2 ORDER BY id LIMIT 64";
   deleting = codes "DELETE FROM people WHERE id = ?1";
   inserting = codes "INSERT INTO people (id, name, active) VALUES (?1, ?2, ?3)";

@@ -5,10 +5,10 @@ pub mod Cells
 pub mod Fitting
 pub mod Tables
 pub mod Refusing
-pub mod StoreShapes
 pub mod Steady
 pub mod Memory
 pub mod Readings
 pub mod Surveys
+pub mod Reporting
 pub mod Lookups
 pub mod Prelude

@@ -6,8 +6,8 @@ use Rattle.fdw_api.specs.Scan.{TableRow}
 use Rattle.wrapper_parts.specs.Places.{equals}
 use Rattle.wrapper_parts.specs.Indexes.{IsIndexFrom}
 use Rattle.wrapper_parts.specs.Scans.{column_cells}
-use Rattle.sqlite_tables.specs.StoreShapes.{range_of}
-use Rattle.sqlite_tables.specs.Layouts.{Layout}
+use Rattle.sqlite_looks.specs.Pages.{range_of}
+use Rattle.sqlite_tables.specs.Layouts.{Layout, places}
 use Rattle.sqlite_tables.specs.Cells.{key_in, page_cells, rows_in, least, greatest}
 use Rattle.sqlite_tables.specs.Surveys.{rows_from}
 use Rattle.sqlite_tables.specs.declared.reading.Lookup.{Lookup}
@@ -17,25 +17,26 @@ use Rattle.sqlite_tables.specs.declared.reading.ColumnRead.{ColumnRead}
 abbrev pub values_in : Layout → ℕ → List SqlRow → List Datum
 values_in l column rows = map (λ r. cell (page_cells l r) column) rows
 
--- behind what was read before come the keys of these rows, and their values
+-- after what was read before come the keys of these rows, and their values
 abbrev pub Adds : Layout → ℕ → List SqlRow → ColumnRead → ColumnRead → Type 0
 Adds l column rows old new =
-    (new.keys.items ≡ old.keys.items ++ map key_in rows) × (map datum new.values.items ≡ map datum old.values.items ++ values_in l column rows)
+    (new.keys.items ≡ old.keys.items ++ map key_in rows)
+    × (map datum new.values.items ≡ map datum old.values.items ++ values_in l column rows)
 
 -- the rows from one key on are these, and those from another on
-abbrev pub Parts : List SqlRow → Option ℤ → List SqlRow → Option ℤ → Type 0
-Parts entries low page next = rows_from low entries ≡ page ++ rows_from next entries
+abbrev pub Parts : Layout → List SqlRow → Option ℤ → List SqlRow → Option ℤ → Type 0
+Parts l entries low page next = rows_from l low entries ≡ page ++ rows_from l next entries
 
 -- the keys and the values of the rows up to a key, or to the end, were read
 pub record IsRead (l : Layout) (column : ℕ) (entries : List SqlRow) (next : Option ℤ) (read : ColumnRead) : Type 0 where
   pub seen : List SqlRow
-  pub parts : Parts entries (Some least) seen next
+  pub parts : Parts l entries (Some least) seen next
   pub keys_are : read.keys.items ≡ map key_in seen
   pub values_are : map datum read.values.items ≡ values_in l column seen
 
 -- the keys of all rows in their order, and the index of the cells of the column
 pub record IsLookup (l : Layout) (entries : List SqlRow) (x : Lookup) : Type 0 where
-  pub keys_are : x.keys.items ≡ map key_in (range_of least greatest entries)
+  pub keys_are : x.keys.items ≡ map key_in (range_of (places l) least greatest entries)
   pub index_is : IsIndexFrom 0 (column_cells x.column (rows_in l entries)) x.index
 
 -- a row's cell of a column is equal to a value

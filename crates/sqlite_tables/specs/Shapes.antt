@@ -1,5 +1,5 @@
--- The three texts of a shape of tables, and what they mean where a table of the shape stands alone.
-use Rattle.std.specs.Prelude.{◌≡◌, ℕ, List, [], ◌∷◌, Some, codes, false, refl}
+-- The three texts of a shape of tables, and what they mean in a database of one such table alone.
+use Rattle.std.specs.Prelude.{◌≡◌, ℕ, List, [], ◌∷◌, map, Some, None, codes, false, refl}
 use Rattle.sqlite.specs.declared.types.Value.TheVariants.{Null}
 use Rattle.sqlite.specs.Collation.TheVariants.{Binary}
 use Rattle.sqlite.specs.Command.TheVariants.{Select, Delete, Insert}
@@ -11,15 +11,18 @@ use Rattle.sqlite.specs.Schema.{Schema}
 use Rattle.sqlite.specs.Given.{IsPlain}
 use Rattle.sqlite.specs.Listing.{understood, reads_listing}
 use Rattle.sqlite_tied.specs.Compute.{everything}
-use Rattle.sqlite_tables.specs.StoreShapes.{IsPageText, command_of, page_query}
-use Rattle.sqlite_tables.specs.Layouts.{Layout, orders, people}
-use Rattle.sqlite_tables.specs.Texts.{IsDeleteText, IsInsertText, delete_query, insert_terms}
+use Rattle.sqlite_looks.specs.Pages.{command_of, page_query}
+use Rattle.sqlite_looks.specs.Changes.{cell_term, delete_query}
+use Rattle.sqlite_tables.specs.Layouts.{Layout, further_kinds, orders, people, places}
+use Rattle.sqlite_tables.specs.Texts.{IsDeleteFrom, IsInsertInto, IsPageOf, ShowsAgain}
 
--- under this schema the three texts of a layout are for the table in this tree: they read a page of it, take a row out, and put one in
+-- under this schema the three texts of a layout are for the table in this tree: they read a page of it, take a row out, and put one in,
+-- which a page then shows as it was put in
 pub record AreTexts (schema : Schema) (l : Layout) (tree : ℕ) : Type 0 where
-  pub page : IsPageText schema l.page tree
-  pub delete : IsDeleteText schema l.deleting tree
-  pub insert : IsInsertText schema l.inserting tree l.second l.third
+  pub page : IsPageOf schema l.page tree (places l)
+  pub delete : IsDeleteFrom schema l.deleting tree
+  pub insert : IsInsertInto schema l.inserting tree l.cells (further_kinds l)
+  pub again : ShowsAgain l
 
 -- the schema of a database that has one table
 abbrev pub alone : Table → Schema
@@ -29,7 +32,7 @@ alone table = record { tables = table ∷ []; indexes = []; views = [] }
 abbrev pub IsShape : Layout → Table → Type 0
 IsShape l table = (table.name ≡ l.name) × AreTexts (alone table) l table.tree
 
--- a table of an integer key and two further columns, which stands in this tree
+-- a table of an integer key and two further columns, which has its rows in this tree
 abbrev pub keyed_table : List ℕ → ℕ → List ℕ → Kind → List ℕ → Kind → Table
 keyed_table name tree second second_kind third third_kind = record {
   name = name;
@@ -56,12 +59,12 @@ abbrev pub people_table : ℕ → Table
 people_table tree = keyed_table people.name tree (codes "name") Text (codes "active") Integer
 
 orders_page : command_of (understood (alone (orders_table 0)) orders.page)
-    ≡ Select (record { lets = []; body = page_query 0 }) (codes "id" ∷ codes "part" ∷ codes "n" ∷ [])
+    ≡ Select (record { lets = []; body = page_query 0 (0 ∷ 2 ∷ 3 ∷ []) 64 }) (codes "id" ∷ codes "part" ∷ codes "n" ∷ [])
 unfolding understood everything
 orders_page = refl
 
 people_page : command_of (understood (alone (people_table 0)) people.page)
-    ≡ Select (record { lets = []; body = page_query 0 }) (codes "id" ∷ codes "name" ∷ codes "active" ∷ [])
+    ≡ Select (record { lets = []; body = page_query 0 (0 ∷ 2 ∷ 3 ∷ []) 64 }) (codes "id" ∷ codes "name" ∷ codes "active" ∷ [])
 unfolding understood everything
 people_page = refl
 
@@ -73,11 +76,13 @@ people_delete : command_of (understood (alone (people_table 0)) people.deleting)
 unfolding understood everything
 people_delete = refl
 
-orders_insert : command_of (understood (alone (orders_table 0)) orders.inserting) ≡ Insert 0 (Values insert_terms 4)
+orders_insert : command_of (understood (alone (orders_table 0)) orders.inserting) ≡ Insert 0
+    (Values (map cell_term (Some 0 ∷ None ∷ Some 1 ∷ Some 2 ∷ [])) 4)
 unfolding understood everything
 orders_insert = refl
 
-people_insert : command_of (understood (alone (people_table 0)) people.inserting) ≡ Insert 0 (Values insert_terms 4)
+people_insert : command_of (understood (alone (people_table 0)) people.inserting) ≡ Insert 0
+    (Values (map cell_term (Some 0 ∷ None ∷ Some 1 ∷ Some 2 ∷ [])) 4)
 unfolding understood everything
 people_insert = refl
 
@@ -101,10 +106,7 @@ orders_texts = (
   refl,
   record {
     page = record {
-      names = _;
-      is = orders_page;
-      plain = orders_plain.0;
-      unlisted = unlisted.0;
+      reads = record { names = _; is = orders_page; plain = orders_plain.0; unlisted = unlisted.0 };
       place = 0;
       table = orders_table 0;
       at = refl;
@@ -113,18 +115,17 @@ orders_texts = (
     delete = record {
       place = 0;
       target = record { table = orders_table 0; at = refl; tree_is = refl; free = λ olds news. refl };
-      is = orders_delete;
-      plain = orders_plain.1;
+      deletes = record { is = orders_delete; plain = orders_plain.1 };
     };
     insert = record {
       place = 0;
       target = record { table = orders_table 0; at = refl; tree_is = refl; free = λ olds news. refl };
-      is = orders_insert;
-      plain = orders_plain.2;
-      kinds = refl;
+      inserts = record { is = orders_insert; plain = orders_plain.2 };
+      kinds_are = refl;
       uncounted = refl;
       unstamped = refl;
     };
+    again = refl;
   },
 )
 
@@ -133,10 +134,7 @@ people_texts = (
   refl,
   record {
     page = record {
-      names = _;
-      is = people_page;
-      plain = people_plain.0;
-      unlisted = unlisted.1;
+      reads = record { names = _; is = people_page; plain = people_plain.0; unlisted = unlisted.1 };
       place = 0;
       table = people_table 0;
       at = refl;
@@ -145,17 +143,16 @@ people_texts = (
     delete = record {
       place = 0;
       target = record { table = people_table 0; at = refl; tree_is = refl; free = λ olds news. refl };
-      is = people_delete;
-      plain = people_plain.1;
+      deletes = record { is = people_delete; plain = people_plain.1 };
     };
     insert = record {
       place = 0;
       target = record { table = people_table 0; at = refl; tree_is = refl; free = λ olds news. refl };
-      is = people_insert;
-      plain = people_plain.2;
-      kinds = refl;
+      inserts = record { is = people_insert; plain = people_plain.2 };
+      kinds_are = refl;
       uncounted = refl;
       unstamped = refl;
     };
+    again = refl;
   },
 )

@@ -1,5 +1,6 @@
 -- What a database holds for a layout, and the pages of its rows.
-use Rattle.std.specs.Prelude.{◌≡◌, ◌⊎◌, ℕ, ℤ, pos, ◌+ℤ◌, List, [], ◌∷◌, map, length, nat_eq, if◌then◌else◌, Option, Some, None, option_map, Err}
+use Rattle.std.specs.Prelude.{◌≡◌, ◌⊎◌, ℕ, ℤ, pos, ◌+ℤ◌, List, [], ◌∷◌, map, length, nat_eq, if◌then◌else◌, Option, Some, None}
+use Rattle.std.specs.Prelude.{option_map, Err}
 use Rattle.sqlite.specs.Effect.{Database}
 use Rattle.sqlite.specs.State.{State}
 use Rattle.sqlite.specs.View.{IsShaped}
@@ -13,10 +14,11 @@ use Rattle.sqlite_sql.specs.Query.{Join}
 use Rattle.sqlite.specs.Listing.{understood}
 use Rattle.sqlite_trees.specs.Tree.{Trees}
 use Rattle.sqlite_resolve.specs.declared.error.CompileError.{CompileError}
-use Rattle.sqlite_tables.specs.StoreShapes.{IsPageText, command_of, range_of}
+use Rattle.sqlite_looks.specs.Pages.{command_of, range_of}
 use Rattle.sqlite_tables.specs.Steady.{IsCleanAfter}
 use Rattle.fdw_api.specs.Prelude.{TableRow, Entry, Stored}
-use Rattle.sqlite_tables.specs.Layouts.{Layout, kinds_in}
+use Rattle.sqlite_tables.specs.Layouts.{Layout, kinds_in, places}
+use Rattle.sqlite_tables.specs.Texts.{IsPageOf, page_size}
 use Rattle.sqlite_tables.specs.Cells.{rows_in, key_in}
 use Rattle.sqlite_tables.specs.Fitting.{is_of_shape}
 
@@ -45,7 +47,8 @@ rows_of db l = rows_in l (entries_of db l)
 
 -- each layout's page text either is not understood or reads a page of a table
 abbrev pub IsKnown : Schema → Layout → Type 0
-IsKnown schema l = ((fault : CompileError) × (understood schema l.page ≡ Err fault)) ⊎ ((tree : ℕ) × IsPageText schema l.page tree)
+IsKnown schema l = ((fault : CompileError) × (understood schema l.page ≡ Err fault))
+    ⊎ ((tree : ℕ) × IsPageOf schema l.page tree (places l))
 
 -- a call on the table of a layout that changes nothing, where the disk is clean as it ends and the layout's page text is known; and then
 -- the disk was clean as it began
@@ -54,7 +57,7 @@ pub record ReadsOnly (old new : State) (l : Layout) : Type 0 where
   pub same : IsCleanAfter new → ∥ IsKnown old.now.schema l ∥₁ → new.now ≡ old.now
 
 -- what makes a call on the table of a layout sure: as it ends the disk is clean, and as it begins the layout's page text is known and the
--- table's rows stand in the order of their keys. So it is of each call over a store that always returns what was written
+-- table's rows are in the order of their keys. Each call over a store that always returns what was written is sure
 pub record IsSure (old new : State) (l : Layout) : Type 0 where
   pub after : IsCleanAfter new
   pub known : ∥ IsKnown old.now.schema l ∥₁
@@ -68,11 +71,11 @@ tree_found schema l = if is_of_shape schema l then tree_of schema l else None
 abbrev pub entry_of : Database → Layout → Option Entry
 entry_of db l = option_map (λ t. Stored (kinds_in l) (map (λ r. r.cells) (rows_in l (db.trees t)))) (tree_found db.schema l)
 
--- the first key behind rows of a page
+-- the first key after those of the rows of a page
 abbrev pub behind : ℤ → List SqlRow → ℤ
 behind low [] = low
 behind low (r ∷ rs) = behind (key_in r +ℤ pos 1) rs
 
--- behind a page of a key range come the rows of the keys behind it, where it is full; none where it is not
-abbrev pub rest_of : ℤ → ℤ → List SqlRow → List SqlRow → List SqlRow
-rest_of low high entries page = if nat_eq (length page) 64 then range_of (behind low page) high entries else []
+-- the rows of a key range after a page of it: those of the keys after the page where it is full, and none where it is not
+abbrev pub rest_of : Layout → ℤ → ℤ → List SqlRow → List SqlRow → List SqlRow
+rest_of l low high entries page = if nat_eq (length page) page_size then range_of (places l) (behind low page) high entries else []

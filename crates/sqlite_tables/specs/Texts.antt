@@ -1,79 +1,85 @@
--- What the texts that take a row out of a table and put one in mean under a schema.
-use Rattle.std.specs.Prelude.{◌≡◌, ℕ, pos, negsuc, false, List, [], ◌∷◌, map, Some, None, Err, slice_get}
+-- What the texts of a table mean under a schema: those that read a page of it, take a row out, and put one in.
+use Rattle.std.specs.Prelude.{◌≡◌, ℕ, ◌+◌, false, List, [], ◌∷◌, map, length, Option, Some, None, Err, slice_get, slice_index_or}
+use Rattle.std.specs.Prelude.{if◌then◌else◌}
 use Rattle.med_value.specs.declared.value.ColType.{ColType}
 use Rattle.med_value.specs.declared.value.ColType.TheVariants as types
-use Rattle.sqlite.specs.declared.types.Value.TheVariants.{Int, Null}
 use Rattle.sqlite.specs.Order.{Row}
-use Rattle.sqlite.specs.Term.{Term, lit, col, op2}
-use Rattle.sqlite.specs.Query.{Query, inner, end}
-use Rattle.sqlite.specs.Command.TheVariants.{Delete, Insert}
-use Rattle.sqlite.specs.Source.TheVariants.{Values}
 use Rattle.sqlite.specs.Kind.{Kind}
 use Rattle.sqlite.specs.Kind.TheVariants.{Integer, Text}
 use Rattle.sqlite.specs.Table.{Table}
 use Rattle.sqlite.specs.Schema.{Schema}
 use Rattle.sqlite.specs.Listing.{understood}
-use Rattle.sqlite.specs.Given.{IsPlain}
 use Rattle.sqlite_schema.specs.declared.schema.Keys.TheVariants.{Enforced}
 use Rattle.sqlite_resolve.specs.declared.error.CompileError.{CompileError}
 use Rattle.sqlite_rules.specs.Action.{works}
-use Rattle.sqlite_sql.specs.declared.ops.CompareOp.TheVariants.{Eq}
-use Rattle.sqlite_sql.specs.declared.ops.BinaryOp.TheVariants.{Compare}
-use Rattle.sqlite_value.specs.declared.keys.Collation.TheVariants.{Binary}
-use Rattle.sqlite_tables.specs.StoreShapes.{command_of}
+use Rattle.sqlite_looks.specs.Pages.{IsPageText}
+use Rattle.sqlite_looks.specs.Changes.{IsDeleteText, IsInsertText}
+use Rattle.sqlite_tables.specs.declared.columns.PageColumn.{PageColumn}
+use Rattle.sqlite_tables.specs.Layouts.{Layout, places, is_key}
 
--- the key is ?1
-abbrev pub delete_filter : List Term
-delete_filter = op2 (Compare Eq Binary) (col 1 0) (col 0 0) ∷ []
+-- how many rows a page has at most
+abbrev pub page_size : ℕ
+page_size = 64
 
--- the keys of the rows of one tree that meet the filter
-abbrev pub delete_query : ℕ → Query
-delete_query tree = record {
-  from = inner tree end;
-  filter = delete_filter;
-  group = None;
-  project = col 1 0 ∷ [];
-  distinct = false;
-  collations = [];
-  order = [];
-  limit = lit (Int (negsuc 0));
-  offset = lit (Int (pos 0));
-}
+-- under this schema the text reads a page of the table in this tree: of each row the cells at these places
+pub record IsPageOf (schema : Schema) (text : List ℕ) (tree : ℕ) (shown : List ℕ) : Type 0 where
+  pub reads : IsPageText schema text tree shown page_size
+  pub place : ℕ
+  pub table : Table
+  pub at : slice_get schema.tables place ≡ Some table
+  pub tree_is : table.tree ≡ tree
 
--- the key ?1, nothing in the column that the key stands for, and ?2 and ?3
-abbrev pub insert_terms : List Term
-insert_terms = col 0 0 ∷ lit Null ∷ col 0 1 ∷ col 0 2 ∷ []
-
--- the column of a table of the database in which values of a type stay as they are
-abbrev pub kind_for : ColType → Kind
-kind_for types.Int = Integer
-kind_for types.Text = Text
-kind_for types.Bool = Integer
-
--- a place of the schema has the table that stands in this tree, and no foreign key acts where its rows are changed
+-- a place of the schema has the table that has its rows in this tree, and no foreign key acts where its rows are changed
 pub record IsTableAt (schema : Schema) (tree place : ℕ) : Type 0 where
   pub table : Table
   pub at : slice_get schema.tables place ≡ Some table
   pub tree_is : table.tree ≡ tree
   pub free : (olds news : List Row) → works schema Enforced 0 tree olds news ≡ []
 
--- under this schema the text takes the row of the key ?1 out of the table that stands in this tree
-pub record IsDeleteText (schema : Schema) (text : List ℕ) (tree : ℕ) : Type 0 where
+-- under this schema the text takes the row of the key ?1 out of the table in this tree
+pub record IsDeleteFrom (schema : Schema) (text : List ℕ) (tree : ℕ) : Type 0 where
   pub place : ℕ
   pub target : IsTableAt schema tree place
-  pub is : command_of (understood schema text) ≡ Delete place (record { lets = []; body = delete_query tree })
-  pub plain : IsPlain (understood schema text)
+  pub deletes : IsDeleteText schema text place tree
 
--- under this schema the text puts a row of the key ?1 and the cells ?2 and ?3, of these types, into the table that stands in this tree.
--- The table has three columns, of which none is AUTOINCREMENT and none has a default that reads the time
-pub record IsInsertText (schema : Schema) (text : List ℕ) (tree : ℕ) (second third : ColType) : Type 0 where
+-- the stored type in which values of a type stay as they are
+abbrev pub kind_for : ColType → Kind
+kind_for types.Int = Integer
+kind_for types.Text = Text
+kind_for types.Bool = Integer
+
+-- the stored type of a cell of a new row, by the parameter that it gets: parameter 0 is the key, and the parameters after it are values of
+-- these types; NULL is stored where the column is the key, whose value the rowid is
+abbrev pub stored_kind : List ColType → Option ℕ → Kind
+stored_kind kinds None = Integer
+stored_kind kinds (Some parameter) = kind_for (slice_index_or (types.Int ∷ kinds) parameter types.Int)
+
+-- under this schema the text puts one row into the table in this tree: its rowid is ?1, and its cells are these parameters, or NULL. The
+-- parameters after the key are values of these types. No column is AUTOINCREMENT, and no default reads the time
+pub record IsInsertInto (schema : Schema) (text : List ℕ) (tree : ℕ) (cells : List (Option ℕ)) (kinds : List ColType) : Type 0 where
   pub place : ℕ
   pub target : IsTableAt schema tree place
-  pub is : command_of (understood schema text) ≡ Insert place (Values insert_terms 4)
-  pub plain : IsPlain (understood schema text)
-  pub kinds : map (λ c. c.kind) target.table.columns ≡ Integer ∷ kind_for second ∷ kind_for third ∷ []
+  pub inserts : IsInsertText schema text place (Some 0 ∷ cells) (length (Some 0 ∷ cells))
+  pub kinds_are : map (λ c. c.kind) target.table.columns ≡ map (stored_kind kinds) cells
   pub uncounted : target.table.is_counted ≡ false
   pub unstamped : target.table.stamps.terms ≡ []
+
+-- the parameters of the columns of a row that is put in, from the next on: the key is parameter 0, and the columns that are not the key
+-- have the parameters after it, in their order
+abbrev pub parameters_from : ℕ → List PageColumn → List ℕ
+parameters_from next [] = []
+parameters_from next (c ∷ cs) = if is_key c then 0 ∷ parameters_from next cs else next ∷ parameters_from (next + 1) cs
+
+abbrev pub parameters_of : Layout → List ℕ
+parameters_of l = parameters_from 1 l.columns
+
+-- the parameter that an INSERT stores in the cell of a row that a page shows at this place; None where it stores NULL, or none is shown
+abbrev pub parameter_shown : Layout → ℕ → Option ℕ
+parameter_shown l place = slice_index_or (Some 0 ∷ l.cells) (slice_index_or (places l) place (length (Some 0 ∷ l.cells))) None
+
+-- what an INSERT stores for each column is what a page shows in it
+abbrev pub ShowsAgain : Layout → Type 0
+ShowsAgain l = map (λ c. parameter_shown l c.place) l.columns ≡ map Some (parameters_of l)
 
 -- under this schema the text is not understood
 abbrev pub IsUnread : Schema → List ℕ → Type 0

@@ -1,13 +1,13 @@
 //! Stored cells as values.
-ghost use Rattle.std.specs.Prelude.{◌≡◌, ◌≢◌, ◌≤◌, true, false, [], ◌∷◌, Some, None, length, IfOk, IfErr, IfSome};
+ghost use Rattle.std.specs.Prelude.{◌≡◌, ◌≢◌, ◌≤◌, ◌++◌, [], ◌∷◌, true, false, Some, None, map, length, IfOk, IfErr, IfSome, OnOk};
 ghost use Rattle.sqlite.specs.Order.{column};
 ghost use Rattle.med_value.specs.Prelude.{datum, tuple};
 ghost use Rattle.fdw_api.specs.Prelude.{cell_fits, row_fits};
 ghost use Rattle.sqlite.specs.declared.types.Value.TheVariants.{Text};
-ghost use Rattle.sqlite_tables.specs.Layouts.{kinds_in};
-ghost use Rattle.sqlite_tables.specs.Cells.{truth_of, cell_of, page_cells, key_in, has_key, is_row};
+ghost use Rattle.sqlite_tables.specs.Layouts.{kinds_at, kinds_in};
+ghost use Rattle.sqlite_tables.specs.Cells.{truth_of, cell_of, cells_at, are_below, page_cells, key_in, has_key, is_row};
 
-use crate::Shape;
+use crate::{PageColumn, Shape};
 use med_value::{ColType, Row as Tuple, Value};
 use sqlite::Row;
 use sqlite::types::ValueRef;
@@ -16,11 +16,11 @@ use std::alloc::{AllocError, Global};
 /// Why a stored cell does not read as a value of its column.
 #[derive(Clone, Copy, Debug, PartialEq, Eq)]
 pub enum Misread {
-    /// Memory was refused.
+    /// Out of memory.
     NoMemory,
-    /// A cell is of another storage class, no truth value, no UTF-8, or has U+0000.
+    /// A cell is of another storage class, is a number other than 0 and 1 in a column of truth values, is not UTF-8, or has U+0000.
     Stray,
-    /// It has no integer key, or too few cells: it is no row of a page.
+    /// The row is no row of a page: it has no integer key, or no cell in the place of a column.
     NoRow,
 }
 
@@ -88,12 +88,12 @@ fn cell(alloc: Global, kind: ColType, row: &Row, at: usize) -> Result<Value, Mis
     }
 }
 
-/// A row of a page as its key and its cells.
+/// A row of a page as its key and the values of its columns.
 #[derive(Debug, Drop)]
 pub struct Keyed {
     /// Its key.
     pub key: i64,
-    /// Its cells, the key first.
+    /// The values of its columns, in their order.
     pub cells: Tuple,
 }
 
@@ -108,38 +108,52 @@ fn key_at(row: &Row) -> Option<i64>
     }
 }
 
-fn three(alloc: Global, first: Value, second: Value, third: Value) -> Result<Tuple, AllocError>
-    ensures { IfOk result (λ r. tuple r ≡ datum first ∷ datum second ∷ datum third ∷ []) }
+fn push(values: &mut Vec<Value>, value: Value) -> Result<(), AllocError>
+    ensures { OnOk result (map datum values.new.items ≡ map datum values.old.items ++ datum value ∷ []) }
 {
-    let mut cells = Vec::new(alloc);
-    cells.push(first)?;
-    cells.push(second)?;
-    cells.push(third)?;
-    Ok(Tuple { cells })
+    values.push(value)?;
+    Ok(())
 }
 
-/// A row of a page of a table as its key and its cells, which are values of its columns.
+// The values of columns in a row of a page.
+fn values_at(alloc: Global, columns: &[PageColumn], row: &Row) -> Result<Vec<Value>, Misread>
+    ensures values { IfOk result (λ values. map datum values.items ≡ cells_at columns.now row.now) }
+    ensures fits { IfOk result (λ _. row_fits (kinds_at columns.now) (cells_at columns.now row.now) ≡ true) }
+    ensures stray { IfErr result (λ m. m ≡ Misread.Stray
+        → row_fits (kinds_at columns.now) (cells_at columns.now row.now) ≡ false) }
+    ensures no_row { IfErr result (λ m. m ≡ Misread.NoRow → are_below (length row.now) columns.now ≡ false) }
+{
+    let mut values = Vec::with_capacity(alloc, columns.len())?;
+    let mut left = columns;
+    while let Some((column, others)) = left.split_first() {
+        match cell(alloc, column.kind, row, column.place) {
+            Ok(value) => push(&mut values, value)?,
+            Err(misread) => return Err(misread),
+        }
+        left = others;
+    }
+    Ok(values)
+}
+
+/// Returns a row of a page of a table as its key and the values of its columns.
+///
+/// Fails as stray where a cell is not of its column's type, as no row where the row is none of a page, and when out of memory.
 pub fn key_and_cells(alloc: Global, shape: &Shape, row: &Row) -> Result<Keyed, Misread>
     ensures key { IfOk result (λ k. k.key ≡ key_in row.now) }
     ensures cells { IfOk result (λ k. tuple k.cells ≡ page_cells shape.now row.now) }
     ensures fits { IfOk result (λ k. row_fits (kinds_in shape.now) (tuple k.cells) ≡ true) }
     ensures stray { IfErr result (λ m. m ≡ Misread.Stray
         → row_fits (kinds_in shape.now) (page_cells shape.now row.now) ≡ false) }
-    ensures no_row { IfErr result (λ m. m ≡ Misread.NoRow → is_row row.now ≡ false) }
+    ensures no_row { IfErr result (λ m. m ≡ Misread.NoRow → is_row shape.now row.now ≡ false) }
 {
-    let key = match key_at(row) {
-        Some(key) => key,
-        None => return Err(Misread::NoRow),
+    let Some(key) = key_at(row) else {
+        return Err(Misread::NoRow);
     };
-    let types = shape.kinds();
-    let second = match cell(alloc, types[1], row, 1) {
-        Ok(value) => value,
-        Err(misread) => return Err(misread),
-    };
-    let third = match cell(alloc, types[2], row, 2) {
-        Ok(value) => value,
-        Err(misread) => return Err(misread),
-    };
-    let cells = three(alloc, Value::Int(key), second, third)?;
-    Ok(Keyed { key, cells })
+    match values_at(alloc, shape.columns(), row) {
+        Ok(cells) => Ok(Keyed {
+            key,
+            cells: Tuple { cells },
+        }),
+        Err(misread) => Err(misread),
+    }
 }

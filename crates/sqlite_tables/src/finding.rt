@@ -6,10 +6,12 @@ ghost use Rattle.sqlite.specs.View.{IsShaped};
 ghost use Rattle.sqlite_trees.specs.declared.store.Shape.TheVariants as stored;
 ghost use Rattle.med_value.specs.Datum.{datum};
 ghost use Rattle.fdw_api.specs.Calls.{not_refused};
-ghost use Rattle.sqlite_tables.specs.StoreShapes.{range_of};
+ghost use Rattle.sqlite_looks.specs.Pages.{range_of};
+ghost use Rattle.sqlite_tables.specs.Layouts.{places};
 ghost use Rattle.sqlite_tables.specs.Cells.{row_in};
 ghost use Rattle.sqlite_tables.specs.Tables.{IsKnown, IsSure, ReadsOnly, entries_of};
 ghost use Rattle.sqlite_tables.specs.Lookups.{IsLookup, rows_with};
+ghost use Rattle.sqlite_tables.specs.Texts.{page_size};
 
 use crate::reading::Lookup;
 use crate::{Shape, SourceStore, page_between};
@@ -18,7 +20,7 @@ use med_value::Value;
 use sqlite::{Connection, Row};
 use std::alloc::Global;
 
-// The row of a key. That there is none is a failure of the source.
+// Returns the row of a key. Fails as the source where there is none.
 fn row_of_key<S: SourceStore>(
     conn: &mut Connection<S>,
     shape: &Shape,
@@ -27,12 +29,14 @@ fn row_of_key<S: SourceStore>(
     requires idle { conn.old.in_transaction ≡ false }
     requires known { S.honest ≡ true → ∥ IsKnown conn.old.schema shape.now ∥₁ }
     ensures last { S.honest ≡ true → IfOk result (λ row. (before : List SqlRow)
-        × (take 64 (range_of key key (entries_of (state S.Store conn.old).now shape.now)) ≡ before ++ row ∷ [])) }
+        × (take page_size (range_of (places shape.now) key key (entries_of (state S.Store conn.old).now shape.now))
+        ≡ before ++ row ∷ [])) }
     ensures refused { IfErr result not_refused }
     ensures same { S.honest ≡ true → (state S.Store conn.new).now ≡ (state S.Store conn.old).now }
     ensures sure_last { IsSure (state S.Store conn.old) (state S.Store conn.new) shape.now
         → IfOk result (λ row. (before : List SqlRow)
-        × (take 64 (range_of key key (entries_of (state S.Store conn.old).now shape.now)) ≡ before ++ row ∷ [])) }
+        × (take page_size (range_of (places shape.now) key key (entries_of (state S.Store conn.old).now shape.now))
+        ≡ before ++ row ∷ [])) }
     ensures reads { ReadsOnly (state S.Store conn.old) (state S.Store conn.new) shape.now }
     ensures idle { conn.new.in_transaction ≡ false }
 {
@@ -46,7 +50,7 @@ fn row_of_key<S: SourceStore>(
     }
 }
 
-// Whether at most 64 rows have a value, as far as the lookup tells.
+// Whether at most 64 rows have a value, by the lookup.
 fn is_rare(lookup: &Lookup, value: &Value) -> bool {
     let mut at = lookup.index.next_place(value, 0);
     for _place in 0..64 {
@@ -58,10 +62,11 @@ fn is_rare(lookup: &Lookup, value: &Value) -> bool {
     at >= lookup.keys.len()
 }
 
-/// The rows of a table whose cell of the lookup's column is equal to a value, in the order of their keys; None where they are more than 64.
+/// Returns the rows of a table whose cell in the lookup's column is equal to a value, in the order of their keys; None where they are more
+/// than 64.
 ///
-/// Each is read by its key. That one is not there is told as a failure of the source. Nothing changes, also where it fails. It is so over a
-/// store that always returns what was written, and of each call by itself that is sure (`IsSure`), by a lookup of the table's rows.
+/// Each is read by its key. Fails as the source where one is not there. Nothing changes, also where it fails. This holds over a store that
+/// always returns what was written, and of each call by itself that is sure (`IsSure`), by a lookup of the table's rows.
 pub fn rows_with<S: SourceStore>(
     alloc: Global,
     conn: &mut Connection<S>,

@@ -17,7 +17,7 @@ use sqlite::{Connection, Row};
 use std::alloc::Global;
 use wrapper_parts::{PlaceIndex, value_at};
 
-// How many pages a table may have: 1,000,000 rows are on 15,625 full ones, behind which one more shows that none follows.
+// How many pages a table may have: 1,000,000 rows are on 15,625 full ones, after which one more shows that none follows.
 const PAGE_LIMIT: u64 = 15_626;
 
 /// The rows of a table by the values of one of its columns: the keys of all its rows in their order, and the places among them of each
@@ -32,7 +32,7 @@ pub struct Lookup {
 }
 
 impl Lookup {
-    /// The column by whose values it leads to rows, counted from 0.
+    /// Returns the number of the column by whose values it leads to rows, counted from 0.
     pub fn column(&self) -> usize
         ensures { result ≡ self.now.column }
     {
@@ -47,7 +47,7 @@ struct ColumnRead {
     values: Vec<Value>,
 }
 
-// What a row that could not be read is to a table that was bound.
+// Returns what a row that could not be read is to a table that was bound.
 fn fault_of_misread(misread: Misread) -> Fault
     ensures { not_refused result }
 {
@@ -57,7 +57,7 @@ fn fault_of_misread(misread: Misread) -> Fault
     }
 }
 
-// A copy of a row's cell, NULL where there is no such column.
+// Returns a copy of a row's cell, NULL where there is no such column.
 fn cell_of(alloc: Global, row: &Tuple, column: usize) -> Result<Value, NoMemory>
     ensures { IfOk result (λ v. datum v ≡ cell (tuple row.now) column) }
 {
@@ -65,7 +65,7 @@ fn cell_of(alloc: Global, row: &Tuple, column: usize) -> Result<Value, NoMemory>
     value_at(&row.cells, column, &missing).copy(alloc)
 }
 
-// Adds a row to what was read, and answers its key.
+// Adds a row to what was read, and returns its key.
 fn add_row(
     alloc: Global,
     shape: &Shape,
@@ -87,7 +87,7 @@ fn add_row(
     Ok(key)
 }
 
-// Adds the rows of a page to what was read, and answers the key of the last one.
+// Adds the rows of a page to what was read, and returns the key of the last one.
 fn add_page(
     alloc: Global,
     shape: &Shape,
@@ -109,7 +109,7 @@ fn add_page(
     Ok(last)
 }
 
-// Adds the page that begins at a key to what was read, and answers where the next one begins.
+// Adds the page that begins at a key to what was read, and returns the key where the next one begins.
 fn read_page<S: SourceStore>(
     alloc: Global,
     conn: &mut Connection<S>,
@@ -121,12 +121,13 @@ fn read_page<S: SourceStore>(
     requires idle { conn.old.in_transaction ≡ false }
     requires known { S.honest ≡ true → ∥ IsKnown conn.old.schema shape.now ∥₁ }
     ensures adds { S.honest ≡ true → IfOk result (λ next. (page : List SqlRow)
-        × Parts (entries_of (state S.Store conn.old).now shape.now) (Some low) page next × Adds shape.now column page read.old read.new) }
+        × Parts shape.now (entries_of (state S.Store conn.old).now shape.now) (Some low) page next
+        × Adds shape.now column page read.old read.new) }
     ensures refused { IfErr result not_refused }
     ensures same { S.honest ≡ true → (state S.Store conn.new).now ≡ (state S.Store conn.old).now }
     ensures sure_adds { IsSure (state S.Store conn.old) (state S.Store conn.new) shape.now
         → IfOk result (λ next. (page : List SqlRow)
-        × Parts (entries_of (state S.Store conn.old).now shape.now) (Some low) page next
+        × Parts shape.now (entries_of (state S.Store conn.old).now shape.now) (Some low) page next
         × Adds shape.now column page read.old read.new) }
     ensures reads { ReadsOnly (state S.Store conn.old) (state S.Store conn.new) shape.now }
     ensures idle { conn.new.in_transaction ≡ false }
@@ -141,8 +142,8 @@ fn read_page<S: SourceStore>(
     }
 }
 
-// Reads the keys of a table, and the values of a column of it. A table of more than 1,000,000 rows, or with a cell that is not of its
-// column's type, is told as a failure of the source.
+// Reads the keys of a table, and the values of a column of it. Fails as the source where the table has more than 1,000,000 rows, or a cell
+// that is not of its column's type.
 fn read_column<S: SourceStore>(
     alloc: Global,
     conn: &mut Connection<S>,
@@ -180,7 +181,7 @@ fn read_column<S: SourceStore>(
     }
 }
 
-// The index of these values.
+// Returns the index of these values.
 fn index_of(alloc: Global, values: Vec<Value>) -> Result<PlaceIndex, NoMemory>
     ensures { IfOk result (λ x. IsIndexFrom 0 (map datum values.items) x) }
 {
@@ -194,9 +195,8 @@ fn index_of(alloc: Global, values: Vec<Value>) -> Result<PlaceIndex, NoMemory>
 
 /// Reads the keys of a table and the values of one of its columns, so that its rows can be found by that value.
 ///
-/// A table of more than 1,000,000 rows, or with a cell that is not of its column's type, is told as a failure of the source. Nothing
-/// changes, also where it fails. It is so over a store that always returns what was written, and of each call by itself that is sure
-/// (`IsSure`).
+/// Fails as the source where the table has more than 1,000,000 rows, or a cell that is not of its column's type. Nothing changes, also
+/// where it fails. This holds over a store that always returns what was written, and of each call by itself that is sure (`IsSure`).
 pub fn read_lookup<S: SourceStore>(
     alloc: Global,
     conn: &mut Connection<S>,

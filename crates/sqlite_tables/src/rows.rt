@@ -1,12 +1,13 @@
-//! Rows that a table holds when it is looked at: their keys, and whether their cells are of its columns' types. No value is made of a cell.
-ghost use Rattle.std.specs.Prelude.{◌≡◌, ◌≤◌, true, false, Some, length, IfOk, IfErr, OnOk};
+//! Rows of a table that is looked at: their keys, and whether their cells are of its columns' types. No value is made of a cell.
+ghost use Rattle.std.specs.Prelude.{◌≡◌, ◌≢◌, ◌≤◌, true, false, Some, length, IfOk, IfErr, OnOk};
 ghost use Rattle.sqlite.specs.Order.{column};
 ghost use Rattle.sqlite.specs.declared.types.Value.TheVariants.{Text};
-ghost use Rattle.fdw_api.specs.Scan.{cell_fits};
-ghost use Rattle.sqlite_tables.specs.Cells.{truth_of, cell_of, key_in, is_row};
+ghost use Rattle.fdw_api.specs.Scan.{cell_fits, row_fits};
+ghost use Rattle.sqlite_tables.specs.Layouts.{kinds_at};
+ghost use Rattle.sqlite_tables.specs.Cells.{truth_of, cell_of, cells_at, are_below, key_in, is_row};
 ghost use Rattle.sqlite_tables.specs.Surveys.{fits_in};
 
-use crate::{Misread, Shape};
+use crate::{Misread, PageColumn, Shape};
 use med_value::ColType;
 use sqlite::Row;
 use sqlite::types::ValueRef;
@@ -28,7 +29,7 @@ fn is_text(bytes: &[u8]) -> bool
     !bytes.contains(&0)
 }
 
-// A cell is stray where it does not fit its column.
+// Fails as stray where a cell does not fit its column.
 fn stray_unless(fits: bool) -> Result<(), Misread>
     ensures fits { OnOk result (fits ≡ true) }
     ensures stray { IfErr result (λ m. (m ≡ Misread.Stray) × (fits ≡ false)) }
@@ -41,6 +42,7 @@ fn check_cell(kind: ColType, row: &Row, at: usize) -> Result<(), Misread>
     ensures fits { OnOk result (cell_fits (Some kind) (cell_of kind (column row.now at)) ≡ true) }
     ensures stray { IfErr result (λ m. m ≡ Misread.Stray → cell_fits (Some kind) (cell_of kind (column row.now at)) ≡ false) }
     ensures no_row { IfErr result (λ m. m ≡ Misread.NoRow → length row.now ≤ at) }
+    ensures memory { IfErr result (λ m. m ≢ Misread.NoMemory) }
 {
     let Ok(stored) = row.get_ref(at) else {
         return Err(Misread::NoRow);
@@ -60,23 +62,40 @@ fn check_cell(kind: ColType, row: &Row, at: usize) -> Result<(), Misread>
     }
 }
 
-/// Looks at a row of a page of a table, and answers its key. No memory is taken.
+// Looks at the cells of columns in a row of a page.
+fn check_cells(columns: &[PageColumn], row: &Row) -> Result<(), Misread>
+    ensures fits { OnOk result (row_fits (kinds_at columns.now) (cells_at columns.now row.now) ≡ true) }
+    ensures stray { IfErr result (λ m. m ≡ Misread.Stray
+        → row_fits (kinds_at columns.now) (cells_at columns.now row.now) ≡ false) }
+    ensures no_row { IfErr result (λ m. m ≡ Misread.NoRow → are_below (length row.now) columns.now ≡ false) }
+    ensures memory { IfErr result (λ m. m ≢ Misread.NoMemory) }
+{
+    let mut left = columns;
+    while let Some((column, others)) = left.split_first() {
+        match check_cell(column.kind, row, column.place) {
+            Ok(()) => {}
+            Err(misread) => return Err(misread),
+        }
+        left = others;
+    }
+    Ok(())
+}
+
+/// Looks at a row of a page of a table, and returns its key.
+///
+/// Fails as stray where a cell is not of its column's type, and as no row where the row is none of a page. No memory is taken.
 pub(crate) fn check_row(shape: &Shape, row: &Row) -> Result<i64, Misread>
     ensures key { IfOk result (λ key. key ≡ key_in row.now) }
     ensures fits { OnOk result (fits_in shape.now row.now ≡ true) }
     ensures stray { IfErr result (λ m. m ≡ Misread.Stray → fits_in shape.now row.now ≡ false) }
-    ensures no_row { IfErr result (λ m. m ≡ Misread.NoRow → is_row row.now ≡ false) }
+    ensures no_row { IfErr result (λ m. m ≡ Misread.NoRow → is_row shape.now row.now ≡ false) }
+    ensures memory { IfErr result (λ m. m ≢ Misread.NoMemory) }
 {
     let key = match row.get_ref(0) {
         Ok(ValueRef::Int(key)) => key,
         _ => return Err(Misread::NoRow),
     };
-    let kinds = shape.kinds();
-    match check_cell(kinds[1], row, 1) {
-        Ok(()) => {}
-        Err(misread) => return Err(misread),
-    }
-    match check_cell(kinds[2], row, 2) {
+    match check_cells(shape.columns(), row) {
         Ok(()) => Ok(key),
         Err(misread) => Err(misread),
     }
