@@ -1,2 +1,4 @@
 pub mod Reading
 pub mod Picking
+pub mod Products
+pub mod Permuting
