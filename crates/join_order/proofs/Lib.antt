@@ -5,3 +5,5 @@ pub mod Permuting
 pub mod Flattening
 pub mod MovedCores
 pub mod SameCores
+pub mod SameQueries
+pub mod SameRisk
