@@ -1,0 +1,9 @@
+pub mod Reading
+pub mod Picking
+pub mod Products
+pub mod Permuting
+pub mod Flattening
+pub mod MovedCores
+pub mod SameCores
+pub mod SameQueries
+pub mod SameRisk
