@@ -48,7 +48,8 @@ pub fn written_tables()
 pub fn worked_texts()
     ensures page { page_text (codes "rowid") (codes "a \"b\"") (codes "x\"y" ∷ codes "z" ∷ [])
         ≡ codes "SELECT rowid, \"x\"\"y\", \"z\" FROM \"a \"\"b\"\"\" WHERE rowid >= ?1 AND rowid <= ?2 ORDER BY rowid LIMIT 64" }
-    ensures bare { page_text (codes "oid") (codes "t") [] ≡ codes "SELECT oid FROM \"t\" WHERE oid >= ?1 AND oid <= ?2 ORDER BY oid LIMIT 64" }
+    ensures bare { page_text (codes "oid") (codes "t") []
+        ≡ codes "SELECT oid FROM \"t\" WHERE oid >= ?1 AND oid <= ?2 ORDER BY oid LIMIT 64" }
     ensures delete { delete_text (codes "oid") (codes "a \"b\"") ≡ codes "DELETE FROM \"a \"\"b\"\"\" WHERE oid = ?1" }
     ensures insert { insert_text (codes "_rowid_") (codes "a \"b\"") (codes "x\"y" ∷ codes "z" ∷ [])
         ≡ codes "INSERT INTO \"a \"\"b\"\"\" (_rowid_, \"x\"\"y\", \"z\") VALUES (?, ?, ?)" }

@@ -15,7 +15,6 @@ pub mod reading;
 pub mod rows;
 pub mod shapes;
 pub mod steady;
-mod store_pages;
 pub mod surveys;
 pub mod tables;
 
