@@ -8,7 +8,7 @@ INSTALL = install
 to = $(DESTDIR)$(PREFIX)
 bash = $(to)/share/bash-completion/completions
 zsh = $(to)/share/zsh/site-functions
-# The folders of the Python package, as they stand in python/.
+# The folders of the Python package, as they are in python/.
 rooms = $(patsubst python/%/,%,$(sort $(dir $(wildcard python/fedq/*.py python/fedq/*/*.py))))
 
 .PHONY: help install uninstall

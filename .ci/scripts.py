@@ -17,7 +17,7 @@ def ended(script, program):
     """How a script ends over the program, in a process of its own: passed, failed, and what is to be read of it. One that breaks off or tries nothing has
     failed."""
     words = [sys.executable, "-B", os.path.realpath(__file__), script, program]
-    # (`python3` is the one that runs this, there too where what stands on the PATH is a script that looks for one)
+    # (`python3` is the one that runs this, there too where the `python3` on the PATH is a script that looks for one)
     env = {**os.environ, "PATH": f"{os.path.dirname(sys.executable)}:{os.environ['PATH']}"}
     try:
         ran = subprocess.run(words, stdin=subprocess.DEVNULL, stdout=subprocess.PIPE, stderr=subprocess.STDOUT, errors="replace", timeout=SECONDS, env=env)
@@ -39,7 +39,7 @@ def over(program, scripts=(*LONG, *SCRIPTS)):
         yield from pool.map(lambda it: ended(it, os.path.abspath(program)), scripts)
 
 def sources_of_dist():
-    """The sum of the sources that the program in dist/ was made of, the kit that made it, and the sum of those that stand here."""
+    """The sum of the sources that the program in dist/ was made of, the kit that made it, and the sum of those that are here."""
     with open("dist/sources", encoding="utf-8") as it:
         sources, kit = it.read().split("\n", 1)
     return sources, kit, subprocess.check_output("dist/digest", text=True).strip()
@@ -52,7 +52,7 @@ def told(found, counts=(0, 0)):
     return counts
 
 def quick(program="dist/fedq"):
-    """Runs all that needs no prover but `LONG` over the program in dist/, where that is of the sources that stand here."""
+    """Runs all that needs no prover but `LONG` over the program in dist/, where that is of the sources here."""
     sources, _, here = sources_of_dist()
     first = (1, 0, f"{program} is of these sources") if sources == here else (0, 1, f"{program} is of other sources: dist/rebuild makes it anew")
     passed, failed = told(over(program, SCRIPTS), told([first]))

@@ -10,7 +10,7 @@ from .names import quoted_name
 
 # Numbers with a point; dates that begin with the day; cells of several kinds; a text column with empty cells.
 KINDS = ("decimal", "day_first_date", "mixed", "empty_text")
-# A comment may end a line of a script, and stands in no line of its own: `fedq run --init` takes one statement a line.
+# A comment may end a line of a script, and has no line of its own: `fedq run --init` takes one statement a line.
 MARK = "-- columns: "
 NAME = r'("(?:[^"]|"")*"|[^\s".,]+)'
 NOTE = re.compile(rf"{NAME}\.{NAME} ({'|'.join(KINDS)})(?=,|\s*$)")

@@ -32,7 +32,7 @@ def passwords(gateway: Gateway) -> Iterator[Case]:
 
 
 def broken_exchanges(gateway: Gateway) -> Iterator[Case]:
-    """Exchanges that are not whole, or that ask for another mechanism."""
+    """Exchanges that are not whole, or that request another mechanism."""
     first = b"n,,n=,r=abcdefghijklmnop"
     whole = b"SCRAM-SHA-256\0" + struct.pack("!I", len(first)) + first
     for what, data in [
@@ -144,7 +144,7 @@ def lines_port(gateway: Gateway) -> Iterator[Case]:
 
 
 def of_lines(of: socket.socket, count: int) -> bytes:
-    """What comes, up to so many bytes, or as far as it comes within 3 seconds."""
+    """What comes, up to `count` bytes, or as far as it comes within 3 seconds."""
     made = b""
     of.settimeout(3)
     try:
@@ -206,7 +206,7 @@ def tls(gateway: Gateway) -> Iterator[Case]:
             went_on = "it goes on"
         except (OSError, ValueError) as fault:
             went_on = "closed"
-        yield "bytes in plain behind SSLRequest", (found in (b"S", b"E", b""), went_on), (True, "closed")
+        yield "bytes in plain after SSLRequest", (found in (b"S", b"E", b""), went_on), (True, "closed")
     with Client(gateway.port, begins=False) as it:
         it.send(struct.pack("!II", 8, SSL_REQUEST))
         it.take(1)
@@ -259,7 +259,7 @@ def with_ports(program: str) -> Gateway:
 
 
 def with_users(program: str) -> Gateway:
-    """A gateway that asks for passwords."""
+    """A gateway that requires passwords."""
     return Gateway(program, users={"admin": "secret", "ann": "päss wörd,="})
 
 

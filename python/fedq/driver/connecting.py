@@ -57,7 +57,7 @@ def connect(csv: Sources = None, jsonl: Sources = None, sqlite: Sources = None, 
 
 
 def words_of(sources: Dict[str, Dict[str, Path]]) -> List[str]:
-    """The program's words for sources."""
+    """The program's arguments for sources."""
     return [it for kind, named in sources.items() for name, path in named.items() for it in (f"--{kind}", f"{name}={os.fspath(path)}")]
 
 

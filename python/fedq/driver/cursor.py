@@ -122,7 +122,7 @@ class Cursor:
             self.connection.types.clear()
 
     def described(self, reply: Reply, query: Statement, literals: List[str], text: str) -> None:
-        """Takes the names of a query's reply, and asks for the types."""
+        """Takes the names of a query's reply, and finds the types."""
         if reply.code:
             self.declared = None
             raise error_of(reply.code, reply.name, text)
@@ -215,7 +215,7 @@ class Cursor:
         return f"Q FETCH {self.asked} FROM {self.declared}"
 
     def fetch(self) -> Iterator[Row]:
-        """Asks for the next rows. A FETCH that is refused has ended its cursor."""
+        """Fetches the next rows. A FETCH that is refused has ended its cursor."""
         reply = self.connection.ask(self.request())[0]
         if reply.code:
             self.declared = None
@@ -272,7 +272,7 @@ class Cursor:
 
 
 def count_of(reply: Reply) -> int:
-    """The number of rows that a tag tells, or -1."""
+    """The number of rows in a tag, or -1."""
     verb, _, last = reply.tag.partition(" ")
     return int(last.rpartition(" ")[2]) if verb in COUNTED else -1
 

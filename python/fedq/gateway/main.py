@@ -122,7 +122,7 @@ async def listen(hub: Hub, words: argparse.Namespace, servers: List[asyncio.Abst
         print(f"fedq-gateway: listening on {path}", flush=True)
     if words.lines_port is not None:
         if words.users is not None:
-            say("the port of lines asks for no password: whoever reaches it, so any user of this machine, is whoever he says")
+            say("the port of lines takes no password: whoever reaches it, so any user of this machine, is whoever he says")
         await listen_on(hub, lambda: Lines(hub), "127.0.0.1", words.lines_port, servers, " (lines)")
 
 

@@ -64,7 +64,7 @@ class Outlet:
             self.keep(data)
 
     def keep(self, data: bytes) -> None:
-        """Puts bytes behind those in the file."""
+        """Appends bytes to the file."""
         if self.spool is None:
             self.spool, self.written, self.read = tempfile.TemporaryFile(buffering=0), 0, 0
         self.spool.seek(self.written)

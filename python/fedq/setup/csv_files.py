@@ -65,7 +65,7 @@ def is_open_quote(text: str, mark: str) -> bool:
 
 
 def quotes(report: Report, text: str, last: int, mark: str = ",") -> None:
-    """Warns of a quote that is never closed, which makes the rest of the file one cell, and of text behind a closing quote."""
+    """Warns of a quote that is never closed, which makes the rest of the file one cell, and of text after a closing quote."""
     if '"' not in text:
         return
     lines = re.split(r"(?<=\n)|(?<=\r)(?!\n)", text)
@@ -78,7 +78,7 @@ def quotes(report: Report, text: str, last: int, mark: str = ",") -> None:
             pass
     except csv.Error as error:
         if "expected after" in str(error):
-            report.warn(": text stands behind a closing quote: was a quote within the cell not doubled?", reader.line_num)
+            report.warn(": there is text after a closing quote: was a quote within the cell not doubled?", reader.line_num)
 
 
 def widths(report: Report, found: list, wanted: int, whose: str) -> bool:

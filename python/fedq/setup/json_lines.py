@@ -62,7 +62,7 @@ DECODER = json.JSONDecoder(parse_int=whole, parse_float=real, parse_constant=no_
 
 
 def depth(value: object) -> int:
-    """How deep arrays and objects stand in one another."""
+    """How deep arrays and objects are nested."""
     inner = value.values() if isinstance(value, dict) else value if isinstance(value, list) else None
     return 0 if inner is None else 1 + max(map(depth, inner), default=0)
 
@@ -172,12 +172,12 @@ def say_left_out(report: Report, path: str, found: List[Tuple[str, int, str]], m
 
 
 def likely(report: Report, counts: dict, firsts: dict, rows: int) -> None:
-    """Warns of a member that stands in few lines, and is called nearly as another."""
+    """Warns of a member that few lines have, and whose name is nearly that of another."""
     for member, count in counts.items():
         others = [it for it in counts if it != member and counts[it] > count]
         near = [it for it in others if it.lower() == member.lower()] or difflib.get_close_matches(member, others, 1, 0.74)
         if near and counts[member] + counts[near[0]] <= rows:
-            report.warn(f": {member} stands in {count} of {rows} lines, where {near[0]} does not: is it meant?", firsts[member])
+            report.warn(f": {member} is in {count} of {rows} lines, where {near[0]} is not: is it meant?", firsts[member])
 
 
 def say_twice(report: Report, twice: Dict[str, int], is_row: bool = False) -> None:

@@ -14,7 +14,7 @@ USAGE = """usage: fedq-setup [--csv NAME=FOLDER].. [--jsonl NAME=FOLDER].. [--sq
 Looks at folders of CSV files, of JSON lines, and at SQLite databases, and writes an init file for `fedq run` and `fedq-shell`: a table for
 each file, its columns' names from the header, their types from all cells, and a mapping for everybody, to read; with --write to write too.
 What cannot be bound, and what may surprise, is printed on standard error, with file, line and reason.
-The status is 1 where something could not be bound, 2 where the words are wrong.
+The status is 1 where something could not be bound, 2 where the arguments are wrong.
 
 fedq cannot see access control lists, so a write may widen who reads a file that has one: --write reports each, and binds the tables of its
 source for reading alone; --write-acl binds them for writing all the same.
@@ -115,7 +115,7 @@ def read(given: List[str]) -> argparse.Namespace:
 
 
 def main(given: List[str]) -> int:
-    """Does what the words ask; the exit status."""
+    """Does what the arguments say; the exit status."""
     words = read(given)
     sys.stdout.reconfigure(errors="backslashreplace")
     if words.help:

@@ -33,7 +33,7 @@ def column_hints(text: str, notes: Iterable[ColumnNote]) -> list[str]:
 
 
 def hints_of(found: list[Token], notes: Iterable[ColumnNote]) -> Iterator[str]:
-    """The lines, one for each place where such a column stands."""
+    """The lines, one for each place that has such a column."""
     called = entries(found)
     names = {(entry, note.column): note for entry, table in called for note in notes if note.table == table}
     outputs = ordered_outputs(found)
@@ -93,7 +93,7 @@ def ordered_outputs(found: list[Token]) -> set[int]:
     names, places, at, is_counted = {it.value for it in keys if is_name(it)}, set(), start, True
     for number, item in enumerate(parted(found[start:position(found, ENDS_FROM | {"from"}, start)]), 1):
         column = without_label(item)
-        is_counted = is_counted and item[-1:] != [("mark", "*")]  # (an asterisk stands for several)
+        is_counted = is_counted and item[-1:] != [("mark", "*")]  # (an asterisk is several)
         is_key = len(item) > len(column) and item[-1].value in names or is_counted and ("number", str(number)) in keys
         if len(column) in (1, 3) and is_name(column[-1]) and is_key:
             places.add(at + len(column) - 1)

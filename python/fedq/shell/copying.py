@@ -30,7 +30,7 @@ class Copy(NamedTuple):
 
 
 def read(argument: str) -> Copy:
-    """What follows \\copy. Fails with ValueError, whose text says what may stand there."""
+    """What follows \\copy. Fails with ValueError, whose text says what may follow."""
     if FROM.match(argument):
         raise ValueError("\\copy writes rows to files alone: a file is read by fedq-setup --csv, and rows are written by INSERT")
     found = FORM.fullmatch(argument)

@@ -16,7 +16,7 @@ TABLES = ("SELECT c.table_name, c.column_name, c.data_type, c.is_nullable, f.for
 
 
 def know_tables(session: Session) -> bool:
-    """Asks a gateway for the tables that are there now, and keeps them in the catalogue; whether it answered."""
+    """Requests from a gateway the tables that are there now, and keeps them in the catalogue; whether it answered."""
     if not session.words.port or not session.keeper.catch_up():
         return False
     shown = Rows()

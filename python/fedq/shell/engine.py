@@ -32,7 +32,7 @@ class Nobody:
 
 
 class Engine:
-    """Asks one request after the other. Ctrl-C interrupts only the waiting for a reply and what is done with its rows, so nothing that
+    """Sends one request after the other. Ctrl-C interrupts only the waiting for a reply and what is done with its rows, so nothing that
     came is lost."""
 
     def __init__(self, watcher, interrupts) -> None:

@@ -103,7 +103,7 @@ class Hints:
                 continue
             passed.add(it.value)
             if it.kind == "quoted" and not nearest(it.value, columns):
-                yield f"double quotes make a name; a text stands in single ones: '{it.value}'"
+                yield f"double quotes make a name; a text is in single ones: '{it.value}'"
             yield from said_of("column", it.value, columns)
 
     def unknown_objects(self, text: str) -> Iterator[str]:
@@ -154,7 +154,7 @@ class Hints:
             yield "there is no source: --list, --csv, --jsonl and --sqlite name some"
 
     def remote_table(self, made: Object) -> Iterator[str]:
-        """What is wrong with the file or table that a foreign table was to stand for."""
+        """What is wrong with the file or table that a foreign table was to read."""
         kind, _, path = self.catalogue.source_of(made.of)
         name = made.options.get("table" if kind == "sqlite" else "filename", "")
         if kind == "sqlite":

@@ -40,7 +40,7 @@ def counted(count: int) -> str:
 
 class Writer:
     """Takes one answer. `header` and `page` come while the reply is read, `end` when it was; `write` takes the text to show. A page is
-    the text of its rows: LF stands between rows and TAB between fields."""
+    the text of its rows: LF is between rows and TAB between fields."""
 
     def __init__(self, settings, types, write) -> None:
         self.settings, self.types, self.write, self.names, self.count = settings, types, write, [], 0
@@ -97,11 +97,11 @@ class Aligned(Writer):
             self.look_for_texts(text.replace("\n", "\t").split("\t"))
 
     def is_plain(self, text: str) -> bool:
-        """Whether each character of a page, and of what stands for NULL, takes one column."""
+        """Whether each character of a page, and of what is shown for NULL, takes one column."""
         return text.isascii() and (NULL not in text or width_of(self.settings.null) == len(self.settings.null))
 
     def look_for_texts(self, fields: list[str]) -> None:
-        """Of columns whose type is not known: one with a field that is no number stands to the left, and one that has NULL alone."""
+        """Of columns whose type is not known: one with a field that is no number is aligned left, and one that has NULL alone."""
         count = len(self.names)
         for at, known in enumerate(self.types):
             if self.is_right[at] and not known:
@@ -136,7 +136,7 @@ class Aligned(Writer):
 
 
 class Expanded(Writer):
-    """One line for each field. The pages are kept, so that the pager is told how many lines there are."""
+    """One line for each field. The pages are kept, so that the pager knows how many lines there are."""
 
     def header(self) -> None:
         self.names = list(map(printable, self.names))
@@ -163,7 +163,7 @@ class Expanded(Writer):
 
 
 class Csv(Writer):
-    """CSV as `psql --csv` writes it: NULL is an empty field, the empty text stands in quotes."""
+    """CSV as `psql --csv` writes it: NULL is an empty field, the empty text is in quotes."""
 
     def header(self) -> None:
         self.write(self.row("\t".join(self.names)))
@@ -195,7 +195,7 @@ class Json(Writer):
         self.heads = [f"{', ' if at else '{'}{encode_basestring(it)}: " for at, it in enumerate(self.own_names())]
 
     def own_names(self) -> list[str]:
-        """The names of the output; of one that stands again the second is name_2."""
+        """The names of the output; of a repeated name the second is name_2."""
         found = []
         for name in map(unescaped, self.names):
             own, number = name, 1

@@ -34,7 +34,7 @@ class Settings:
 
 
 class Session:
-    """Asks statements and shows their answers."""
+    """Sends statements and shows their answers."""
 
     def __init__(self, home, words, interrupts, is_person) -> None:
         self.home, self.words, self.interrupts, self.is_person = home, words, interrupts, is_person
@@ -62,10 +62,10 @@ class Session:
         self.notes += notes_of(text)
         for statement in statements_of(text, ScriptReader()):
             if not self.run_as_owner(statement, name):
-                raise Broken(f"{name} was not run to its end, and no statement behind it")
+                raise Broken(f"{name} was not run to its end, and no statement after it")
 
     def run_as_owner(self, statement: Statement, name: str) -> bool:
-        """Runs one statement of the owner; whether it was done. A refusal is told."""
+        """Runs one statement of the owner; whether it was done. A refusal is printed."""
         if statement.fault:
             self.tell_fault(statement, name)
             return False
@@ -77,7 +77,7 @@ class Session:
         return not reply.code
 
     def run(self, statement: Statement, name: str = "") -> bool:
-        """Asks a statement and shows its answer; whether it was done. `name` is the file that it stands in."""
+        """Sends a statement and shows its answer; whether it was done. `name` is the file that it is from."""
         if statement.fault:
             self.tell_fault(statement, name)
             return False
@@ -111,7 +111,7 @@ class Session:
             (self.show_here if self.is_person else self.tell)(f"Time: {seconds * 1000:.1f} ms")
 
     def reply_to(self, text: str, shown: Writer) -> Reply | None:
-        """Asks a statement; `shown` takes its rows. Gives the reply, or None where there is none and this was told."""
+        """Sends a statement; `shown` takes its rows. Returns the reply, or None where there is none and this was printed."""
         engine, began = self.keeper.engine, time.monotonic()
         try:
             return engine.ask(PERSON, f"Q {text}", shown.take)
@@ -145,7 +145,7 @@ class Session:
         return types_by_engine(text, self.code_of) or known
 
     def interrupted(self, seconds: float, text: str) -> None:
-        """Ctrl-C came while a statement was asked: reads the rest of its rows where some came, else stops it. A person's engine is begun
+        """Ctrl-C came while a statement ran: reads the rest of its rows where some came, else stops it. A person's engine is begun
         anew."""
         engine = self.keeper.engine
         try:
@@ -162,7 +162,7 @@ class Session:
                 self.tell(f"the stopped statement has left {path}: remove it")
 
     def ended(self, end: Ended) -> None:
-        """The engine ended by itself while a statement was asked. A person's is begun anew."""
+        """The engine ended by itself while a statement ran. A person's is begun anew."""
         if not self.is_person:
             raise end
         self.tell("the connection ended" if self.words.port else f"the program ended by signal {-end.status}" if end.status < 0 else
@@ -225,12 +225,12 @@ class Session:
         sys.stderr.buffer.flush()
 
     def tell_fault(self, statement: Statement, name: str) -> None:
-        """Says why a statement cannot be asked."""
+        """Says why a statement cannot be sent."""
         self.has_refused = True
         self.tell(f"{self.place(statement, name)}ERROR: {statement.fault}")
 
     def tell_refusal(self, reply: Reply, statement: Statement, name: str, shows_text: bool = False) -> None:
-        """Tells why a statement was refused, and what may help."""
+        """Prints why a statement was refused, and what may help."""
         self.has_refused = True
         lines = [f"{self.place(statement, name)}ERROR {reply.code}: {reply.name.replace('_', ' ')}"]
         lines += [f"  {statement.text}"] if shows_text else []

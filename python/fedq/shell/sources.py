@@ -34,7 +34,7 @@ def are_to_be_looked_at(words: Words, is_person: bool, interrupts: Interrupts) -
 
 
 def first_text(words: Words, interrupts: Interrupts) -> str:
-    """The text in which the first statement stands: of -c, of -f, or what standard input begins with, which stays there."""
+    """The text that has the first statement: of -c, of -f, or what standard input begins with, which stays there."""
     if words.inputs:
         option, text = words.inputs[0]
         return text if option == "-c" else f"\\i {text}"

@@ -28,20 +28,20 @@ Its own:
       --no-setup        makes no tables; so it is too where the statements begin with CREATE or DROP
   -o, --format FORMAT   aligned (by default), csv, tsv, markdown, json or jsonl (both: one object a line)
   -x, --expanded        one line for each field of a row
-      --null TEXT       what stands for NULL in tables, by default \u2205
+      --null TEXT       what is shown for NULL in tables, by default \u2205
   -o, --output FILE     writes rows to FILE, without a format as its name ends (.csv, .json ..);
                         `-o csv` is a format, `-o ./csv` a file
   -V, --version         the version of fedq
   -h, --help            this text
 
-At its prompt \\? tells its commands. Its status is 1 where a statement of -c, -f or standard input was refused.
+At its prompt \\? lists its commands. Its status is 1 where a statement of -c, -f or standard input was refused.
 FEDQ_PROGRAM names another program than ./fedq, FEDQ_HISTORY another file than ~/.fedq_history, PAGER what shows long tables,
 EDITOR what \\e starts, FEDQ_LINES what reads lines: prompt_toolkit where it is installed, else readline; or plain.
 """
 
 
 class BadWords(Exception):
-    """The words are wrong; the text says which."""
+    """The arguments are wrong; the text says which."""
 
 
 class Words:
@@ -124,7 +124,7 @@ def take(words: Words, option: str, value: str | None) -> None:
 
 
 def for_program(words: Words, option: str, value: str | None) -> None:
-    """Takes an option of `fedq run`, or one that nobody knows, of which the program is to say so."""
+    """Takes an option of `fedq run`, or one that nobody knows: the program is to say so."""
     if option == "--owner":
         words.owner = value
     elif option in SOURCES:
