@@ -1,5 +1,6 @@
-"""The scripts that need no prover: the streams, the examples, and what else `SCRIPTS` names. All but `docs/makers/draw`, which looks at crates.txt
-and its page, try a program. A script has `run(program)`, which gives how many tests passed, how many failed, and a line for each of these.
+"""The scripts that need no prover: the streams, the examples, and what else `SCRIPTS` names. All try a program but
+`docs/makers/draw`, which looks at crates.txt and its page, and `docs/words` and its test, which count old words. A script has `run(program)`, which
+returns how many tests passed, how many failed, and a line for each of these.
 
 usage: .ci/scripts.py SCRIPT PROGRAM   runs one, and prints that as JSON
 """
@@ -8,8 +9,8 @@ from concurrent.futures import ThreadPoolExecutor
 
 # The longest first: that of folders waits for the disk.
 TESTS = """folders refused_memory like_sqlite run limits gateway soak shell driver one_line first_hour pages cut_streams setup copies schemas launcher random_files exchanged random_selects
-    install hostile_names replaced mistakes tried connections random_objects random_writes leaving random_cursors"""
-SCRIPTS = [*(f"tests/{it}" for it in TESTS.split()), "examples/run", "docs/makers/draw"]
+    install hostile_names replaced mistakes tried connections random_objects random_writes leaving random_cursors words"""
+SCRIPTS = [*(f"tests/{it}" for it in TESTS.split()), "examples/run", "docs/makers/draw", "docs/words"]
 LONG = ["tests/gateway_long", "tests/clients"]  # that ./check alone runs: they take longer than all others together, or need what may not be installed
 SECONDS = 3600  # after which a script has failed
 
