@@ -94,7 +94,7 @@ def store_for(rt, lib):
     return Kept
 
 def extend(rt, lib):
-    """Gives a kit's `rt` what it lacks."""
+    """Adds to a kit's `rt` what it lacks."""
     its = argparse.Namespace(ci=rt.ci, crate_ci=rt.Crate.ci, crates=rt.crates_of, lanes=rt.in_lanes, must_fail=rt.must_fail)
     rt.REFUSED, rt.AT_LIMIT, rt.BAD, rt.UNSURE, rt.SETTLED, rt.SEEDS = REFUSED, AT_LIMIT, BAD, UNSURE, SETTLED, []
     rt.Kept, rt.linked = store_for(rt, lib), shutil.copytree

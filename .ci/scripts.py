@@ -35,7 +35,7 @@ def ended(script, program):
 
 def over(program, scripts=(*LONG, *SCRIPTS)):
     """Runs all scripts over a program, as many at a time as there are processors and two more, since the first waits for the disk and others for a while, and
-    gives of each, in their order, what `ended` does."""
+    returns of each, in their order, what `ended` does."""
     with ThreadPoolExecutor(len(os.sched_getaffinity(0)) + 2) as pool:
         yield from pool.map(lambda it: ended(it, os.path.abspath(program)), scripts)
 

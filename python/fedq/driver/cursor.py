@@ -21,7 +21,7 @@ COUNTED = ("SELECT", "FETCH", "INSERT", "UPDATE", "DELETE")
 
 
 class Cursor:
-    """Executes statements, and gives out rows as tuples.
+    """Executes statements, and returns rows as tuples.
 
     A query is read as it is fetched, `itersize` rows at a time: neither side holds a large answer whole, but for one with ORDER BY,
     groups, DISTINCT or UNION ALL, which the engine holds, and one that can fault (arithmetic and `sum`), which is sent whole. While rows
@@ -48,7 +48,7 @@ class Cursor:
     # ----------------------------------------------------------------------------------------------------------------------- statements
 
     def execute(self, sql: str, parameters: Any = None) -> "Cursor":
-        """Executes one statement, with a sequence or a mapping of parameters for its places, and gives itself."""
+        """Executes one statement, with a sequence or a mapping of parameters for its places, and returns itself."""
         statement = statement_of(sql, parameters, self.connection.paramstyle)
         with self.connection.lock:
             self.check()
@@ -131,7 +131,7 @@ class Cursor:
         self.description = [(unescaped(name), kind, None, None, None, None, None) for name, kind in zip(names, self.types)]
 
     def executemany(self, sql: str, many: Iterable[Any]) -> "Cursor":
-        """Executes a statement for each of these parameters, and gives itself. An INSERT of one row of VALUES is one statement with all
+        """Executes a statement for each of these parameters, and returns itself. An INSERT of one row of VALUES is one statement with all
         rows, so that they are written whole or not at all; more than 1,048,576 bytes of them are several statements, and each is
         whole. `rowcount` is the sum, also where one is refused."""
         given = list(many)

@@ -203,7 +203,7 @@ class Extended(Session):
             raise Refused("34000", f'portal "{name}" does not exist', "bind it first")
 
     async def described(self, portal: Portal) -> Optional[bytes]:
-        """The RowDescription of a portal; None where it gives no rows. A query of the catalogue is run for it."""
+        """The RowDescription of a portal; None where it returns no rows. A query of the catalogue is run for it."""
         statement = portal.statement
         if statement is None:
             return None

@@ -46,7 +46,7 @@ def separator(text: str) -> Tuple[str, str]:
 
 
 def parted_by(path: str, text: str) -> None:
-    """Refuses a file whose fields are parted by something else than commas, or whose first line says by what they are."""
+    """Refuses a file whose fields are separated by something else than commas, or whose first line names a separator."""
     sign = SEPARATOR_LINE.match(text)
     if sign:
         rows = f"csv.reader((sys.stdin.readline(), sys.stdin)[1], delimiter={python_text(sign[1])})"
@@ -54,7 +54,7 @@ def parted_by(path: str, text: str) -> None:
     mark, name = separator(text)
     if mark != ",":
         rows = f"csv.reader(sys.stdin, delimiter={python_text(mark)})"
-        raise Refused(f" is parted by {name}, not by commas: {rewritten(rows, path, '_commas.csv')}", 1, by_copy=True)
+        raise Refused(f" is separated by {name}, not by commas: {rewritten(rows, path, '_commas.csv')}", 1, by_copy=True)
 
 
 def is_open_quote(text: str, mark: str) -> bool:

@@ -17,7 +17,7 @@ BINDERS = {"csv": bind_csv, "jsonl": bind_jsonl}
 
 
 def guarded(call: Callable, path: str, report: Report) -> object:
-    """What a call gives, or None where the file is refused, which is reported."""
+    """What a call returns, or None where the file is refused, which is reported."""
     try:
         return call(path, report)
     except Refused as refused:

@@ -122,7 +122,7 @@ class Keeper:
             self.engine.stop()
 
     def finish(self) -> int:
-        """Ends the engine in order, and gives its status."""
+        """Ends the engine in order, and returns its status."""
         return self.engine.stop() if self.engine.is_busy or self.is_to_begin else self.engine.finish()
 
 
