@@ -1,7 +1,7 @@
 """Where a must-fail edit is, which edits of a crate one check can try, and what that check reports of each."""
 import argparse, glob, os, re
 
-# Why a refusal shows little, in the kit's words; and what it reports of a proof file then (a name of a goal that is gone, or what cites that proof).
+# Why a refusal shows little, in the kit's text; and what it reports of a proof file then (a name of a goal that is gone, or what cites that proof).
 LITTLE = "only because a proof file names what the edit took away"
 NAMES = re.compile(r"has no field|is not in scope|has no `")
 # The name of an answer to a goal that no function has, which a check is to refuse.

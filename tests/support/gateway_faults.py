@@ -198,7 +198,7 @@ def killed_states() -> Dict[str, Tuple[Callable[[Gateway], Client], bool]]:
 
 
 def killed(gateway: Gateway) -> Iterator[Case]:
-    """The engine is killed in each state: who was at work is answered 57P01, everybody's next statement is answered, objects made stay."""
+    """The engine is killed in each state: a client that was at work is answered 57P01, everybody's next statement is answered, objects made stay."""
     (gateway.folder / "files/more.csv").write_text("n\n7\n", encoding="utf-8")
     with gateway.connect() as owner, gateway.connect("ann") as ann:
         yield "an object", owner.query(

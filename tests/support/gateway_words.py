@@ -1,4 +1,4 @@
-"""The words of the gateway: what does not start, passwords, sockets, TLS, the port of lines, and how it ends."""
+"""The arguments of the gateway: what does not start, passwords, sockets, TLS, the port of lines, and how it ends."""
 import os, pathlib, re, shutil, signal, socket, ssl, stat, struct, subprocess, time
 from typing import Iterator, List, Optional, Tuple
 
@@ -68,11 +68,11 @@ def exchange(gateway: Gateway, answers: List[bytes]) -> bool:
         return kind == b"E" and any(code in body for code in (b"C28P01\0", b"C28000\0", b"C08P01\0"))
 
 
-# Words and files
+# Arguments and files
 
 
 def started(program: str, folder: pathlib.Path, *words: str) -> Tuple[Optional[int], str]:
-    """How a gateway with these words ends within 10 seconds: its exit status and standard error."""
+    """How a gateway with these arguments ends within 10 seconds: its exit status and standard error."""
     env = {**os.environ, "FEDQ_PROGRAM": program}
     made = subprocess.Popen(
         [*command(), *words], cwd=folder, env=env, stdin=subprocess.DEVNULL, stdout=subprocess.DEVNULL, stderr=subprocess.PIPE, text=True

@@ -40,7 +40,7 @@ def free_port() -> int:
 
 
 def command() -> List[str]:
-    """The words that start a gateway: FEDQ_GATEWAY, or fedq-gateway at the top of the checkout."""
+    """The command that starts a gateway: FEDQ_GATEWAY, or fedq-gateway at the top of the checkout."""
     given = os.environ.get("FEDQ_GATEWAY")
     return shlex.split(given) if given else [str(TOP / "fedq-gateway")]
 

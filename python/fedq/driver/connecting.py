@@ -32,7 +32,7 @@ def connect(csv: Sources = None, jsonl: Sources = None, sqlite: Sources = None, 
     - `timeout`: the seconds to wait for the port's first answer; no limit by default.
     - `paramstyle`: qmark (`?`, and `:name` for a mapping) or pyformat (`%s`, and `%(name)s` for a mapping).
 
-    Fails with InterfaceError for wrong words and a missing program, and with DatabaseError where the engine refuses."""
+    Fails with InterfaceError for wrong arguments and a missing program, and with DatabaseError where the engine refuses."""
     if paramstyle not in STYLES:
         raise InterfaceError(f"paramstyle is {' or '.join(STYLES)}, and not {paramstyle}")
     sources = {"csv": csv or {}, "jsonl": jsonl or {}, "sqlite": sqlite or {}}

@@ -129,7 +129,7 @@ class Connection(asyncio.Protocol):
             self.transport.abort()
 
     def leave(self) -> None:
-        """Sends what there is and closes. Who does not read it is cut off."""
+        """Sends what there is and closes. A client that does not read it is cut off."""
         self.outlet.flush()
         self.hub.loop.call_soon(self.close)  # (not within what the transport has called: TLS would not bear it)
         self.hub.loop.call_later(LEAVE_SECONDS, self.transport.abort)

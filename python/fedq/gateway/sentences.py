@@ -49,7 +49,7 @@ SENTENCES: Dict[str, Tuple[str, str]] = {
     "HV00A": ("a file is not in its format", "`fedq-setup --check` says the line and why"),
     "HV00D": ("there is no such option here", "docs/SOURCES.md lists the options"),
     "HV00J": ("an option is missing", "docs/SOURCES.md lists the options"),
-    "HV00N": ("the source is not there, or a server has it already", "name a source of the words that the gateway was started with"),
+    "HV00N": ("the source is not there, or a server has it already", "name a source of the arguments that the gateway was started with"),
     "HV00R": ("there is no such file or table in the source", "look at its name: capital letters count"),
 }
 

@@ -227,7 +227,7 @@ class Session:
         return f"DISCARD {what.upper()}"
 
     def deallocate(self, found: Tuple[Token, ...]) -> None:
-        """Forgets prepared statements; the room of the extended protocol takes its place."""
+        """Forgets prepared statements; the extended protocol's object takes its place."""
 
     # Faults
 

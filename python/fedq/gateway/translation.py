@@ -1,4 +1,4 @@
-"""Questions to the catalogue in PostgreSQL's words, as SQLite's: casts, regular expressions, arrays, names of tables as numbers. It works
+"""Questions to the catalogue in PostgreSQL's SQL, as SQLite's: casts, regular expressions, arrays, names of tables as numbers. It works
 on tokens, and leaves as it is what it does not know."""
 import json
 from typing import Callable, Dict, List, Optional, Sequence
@@ -197,5 +197,5 @@ def elements(inner: List[Token]) -> List[Token]:
 
 
 def translated(found: List[Token], depth: int = 0) -> List[Token]:
-    """PostgreSQL's words as SQLite's."""
+    """PostgreSQL's SQL as SQLite's."""
     return Translator(found, depth).all()

@@ -1,4 +1,4 @@
-"""The words with which the gateway is started."""
+"""The arguments with which the gateway is started."""
 import argparse, ipaddress, os, shutil, stat
 from typing import List, Optional, Sequence
 
@@ -61,7 +61,7 @@ def parser() -> argparse.ArgumentParser:
 
 
 def read(given: Sequence[str]) -> argparse.Namespace:
-    """Reads the words. Fails with BadWords; ends with status 2 where one is none of those."""
+    """Reads the arguments. Fails with BadWords; ends with status 2 where one is none of those."""
     words = parser().parse_args(given)
     if words.add_user is not None:
         if not words.users:
@@ -72,7 +72,7 @@ def read(given: Sequence[str]) -> argparse.Namespace:
     if words.host is None and not words.socket or words.host is None and words.users:
         words.host = "127.0.0.1"
     if words.host and not words.users and not is_loopback(words.host):
-        raise BadWords(f"listening on {words.host} needs --users FILE: else who reaches the port is whoever he says. "
+        raise BadWords(f"listening on {words.host} needs --users FILE: else whoever reaches the port is any user that he names. "
                        "`fedq-gateway --users FILE --add-user NAME` makes the file; --host 127.0.0.1 needs none")
     if words.users and words.lines_port is not None and not words.lines_without_passwords:
         raise BadWords("--lines-port takes no password, and --users requires one: whoever reaches the port of lines would need none. "
@@ -108,7 +108,7 @@ def judge_folder(path: str) -> None:
 
 
 def command(words: argparse.Namespace) -> List[str]:
-    """The program and its words. Fails with BadWords where there is none."""
+    """The program and its arguments. Fails with BadWords where there is none."""
     program: Optional[str] = os.environ.get("FEDQ_PROGRAM") or shutil.which("fedq")
     if not program:
         raise BadWords("fedq is not on the PATH, and FEDQ_PROGRAM does not name it")

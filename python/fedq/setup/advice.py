@@ -21,7 +21,7 @@ class Refused(Exception):
 class Report:
     """What is said of one file: faults, for which it cannot be bound, and warnings. `notes` are columns, each with its kind of
     `fedq.notes`; `notices` are what does no harm; `unbound` are members that no column reads, and
-    `taken_out` is the fault of the tables that `--copy` takes out; `by_copy` is whether `--copy` makes more of it; `source` are the words
+    `taken_out` is the fault of the tables that `--copy` takes out; `by_copy` is whether `--copy` makes more of it; `source` are the arguments
     that name its source; `open_quote` is the line of a quote that is never closed."""
 
     def __init__(self, name: str) -> None:

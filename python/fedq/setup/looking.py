@@ -10,7 +10,7 @@ NO_TABLE = " is no table by its name: left out"  # what is said of a page or a s
 
 
 def in_one_line(report: Report) -> Optional[str]:
-    """What a report says, on one line: why the file is not bound, else what may surprise; and the words that make a plain copy, where that
+    """What a report says, on one line: why the file is not bound, else what may surprise; and the command that makes a plain copy, where that
     makes more of it than the command that is said. None where there is nothing to say."""
     said = faults_of(report) if report.faults else warnings_of(report)
     makes_more = report.by_copy and (report.faults or NESTED in (said or "") or any(kind == "decimal" for _, kind in report.notes))

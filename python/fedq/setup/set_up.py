@@ -1,4 +1,4 @@
-"""What fedq-setup makes of sources, for programs: the shell, the driver, and its own words."""
+"""What fedq-setup makes of sources, for programs: the shell, the driver, and its own command."""
 import csv, gc, os, threading
 from dataclasses import dataclass
 from typing import Dict, Iterable, List, Mapping, Optional, Set, Union
@@ -29,7 +29,7 @@ class SetUp:
 
 
 def sources_of(words: Mapping[str, Iterable[str]]) -> Dict[str, Dict[str, str]]:
-    """The sources that words NAME=PATH of each kind name, by kind and name. Fails with ValueError where they name none."""
+    """The sources that arguments NAME=PATH of each kind name, by kind and name. Fails with ValueError where they name none."""
     found, names = {it: {} for it in KINDS}, set()  # type: Dict[str, Dict[str, str]], Set[str]
     for kind in KINDS:
         for word in words.get(kind, ()):

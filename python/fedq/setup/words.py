@@ -1,4 +1,4 @@
-"""The words with which fedq-setup is started."""
+"""The arguments with which fedq-setup is started."""
 import argparse, gc, os, sys
 from typing import Dict, List, Tuple
 
@@ -21,7 +21,7 @@ source for reading alone; --write-acl binds them for writing all the same.
 
 --copy FOLDER makes plain copies of the sources in FOLDER, those anew whose source was changed since, and binds the copies: CSV with commas
 in UTF-8, a JSON object a line with members a_b for objects, whole numbers for decimals (price_x100), a month beside a date, and tables of
-databases that cannot be bound. FOLDER/fedq-copies.json says what was done. The sources stay as they are. Prints the words to start with;
+databases that cannot be bound. FOLDER/fedq-copies.json says what was done. The sources stay as they are. Prints the arguments to start with;
 the init file is written where --out is given.
 
 --check prints on standard output why a CREATE FOREIGN TABLE over FILE is refused, a line for each fault, and ends with 1 where
@@ -29,14 +29,14 @@ there is one. Of a database FOLDER is the database, and FILE its table."""
 
 
 def usage_fault(said: str) -> int:
-    """Prints what is wrong with the words; the exit status."""
+    """Prints what is wrong with the arguments; the exit status."""
     for line in (f"fedq-setup: {said}", USAGE.splitlines()[0], "fedq-setup --help has more"):
         say(line)
     return 2
 
 
 class Words(argparse.ArgumentParser):
-    """Reads words; what is wrong with them ends the program."""
+    """Reads arguments; what is wrong with them ends the program."""
 
     def error(self, message: str) -> None:
         """Ends the program with status 2."""
@@ -44,7 +44,7 @@ class Words(argparse.ArgumentParser):
 
 
 def texts_of(given: List[str]) -> Tuple[Dict[str, str], List[str]]:
-    """The texts after --columns, --members and --null, which may begin with dashes, and the other words."""
+    """The texts after --columns, --members and --null, which may begin with dashes, and the other arguments."""
     texts, rest, given = {"columns": None, "members": None, "null": "\\N"}, [], iter(given)
     for word in given:
         name, mark, text = word.partition("=")
@@ -100,7 +100,7 @@ def copy_sources(words: argparse.Namespace) -> int:
 
 
 def read(given: List[str]) -> argparse.Namespace:
-    """What the words say."""
+    """What the arguments say."""
     parser = Words(prog="fedq-setup", add_help=False, allow_abbrev=False)
     for word in ("--csv", "--jsonl", "--sqlite"):
         parser.add_argument(word, action="append", default=[])

@@ -1,4 +1,4 @@
-"""\\copy (SELECT ..) TO FILE: what its words mean, and a file that is there once it is whole."""
+"""\\copy (SELECT ..) TO FILE: what its parts mean, and a file that is there once it is whole."""
 from __future__ import annotations
 
 import copy, os, re, stat, sys

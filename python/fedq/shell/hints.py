@@ -85,7 +85,7 @@ class Hints:
                 yield from said_of("entry of FROM", it.value, called)
 
     def setup_words(self) -> str:
-        """The words with which fedq-setup looks at the sources; nothing where there are none, or no fedq-setup."""
+        """The arguments with which fedq-setup looks at the sources; nothing where there are none, or no fedq-setup."""
         words = " ".join(f"--{kind} {name}={folder_word(path)}" for kind, name, path in self.catalogue.sources if kind != "list")
         return words if setup_program(self.home) else ""
 

@@ -29,7 +29,7 @@ def are_to_be_looked_at(words: Words, is_person: bool, interrupts: Interrupts) -
     if words.inits or words.makes_no_tables or words.port or all(kind == "list" for kind, _, _ in words.sources):
         return False
     if not all(name and path or kind == "list" for kind, name, path in words.sources):
-        return False  # (the program says what is wrong with such words)
+        return False  # (the program says what is wrong with such arguments)
     return is_person or not makes_objects(first_text(words, interrupts))
 
 

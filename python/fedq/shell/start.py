@@ -1,4 +1,4 @@
-"""From the words to the end of the shell."""
+"""From the arguments to the end of the shell."""
 from __future__ import annotations
 
 import os, shutil, subprocess, sys
@@ -27,7 +27,7 @@ def main(home: str, given: list[str]) -> int:
     try:
         words = read(given)
     except BadWords as fault:
-        return fail(f"{fault}; fedq-shell --help has the words", 2)
+        return fail(f"{fault}; fedq-shell --help has the arguments", 2)
     if words.asks_help:
         print(USAGE, end="")
         return 0

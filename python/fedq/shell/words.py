@@ -1,4 +1,4 @@
-"""The words with which the shell was started: its own, and those that go to `fedq run`."""
+"""The arguments with which the shell was started: its own, and those that go to `fedq run`."""
 from __future__ import annotations
 
 import os
@@ -45,7 +45,7 @@ class BadWords(Exception):
 
 
 class Words:
-    """What the words say. Of `sources` each is (kind, name, path), and of `inputs` ("-c", SQL) or ("-f", FILE). `files` has of a source
+    """What the arguments say. Of `sources` each is (kind, name, path), and of `inputs` ("-c", SQL) or ("-f", FILE). `files` has of a source
     that is one file of its folder the name of this file."""
     owner, user, output, port, format, null, save = "admin", "", "", 0, "", "\u2205", ""
     is_expanded = stops = asks_help = asks_version = makes_no_tables = False
@@ -54,7 +54,7 @@ class Words:
         self.program_words, self.sources, self.inits, self.inputs, self.files = [], [], [], [], {}
 
     def leave_out(self, databases: set[str]) -> None:
-        """Leaves these databases out of the sources and of the words for the program, so that it does not open them."""
+        """Leaves these databases out of the sources and of the arguments for the program, so that it does not open them."""
         words, kept = iter(self.program_words), []
         for word in words:
             value = next(words) if word in TAKES_VALUE else None
@@ -138,7 +138,7 @@ def for_program(words: Words, option: str, value: str | None) -> None:
 
 
 def read(given: list[str]) -> Words:
-    """What these words say; raises BadWords."""
+    """What these arguments say; raises BadWords."""
     words = Words()
     for option, value in options(given):
         take(words, option, value)
