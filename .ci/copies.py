@@ -1,5 +1,5 @@
-"""The texts by which one check tries edits. Beside a function is a copy of it for each edit of its body, each under a name of its own. Of the functions that no
-edit changes there are the statements alone. A function is proved from the contracts of what it calls, so that a copy is proved there from just what the
+"""The texts by which one check tries edits. Beside a function is a copy of it for each edit of its body, each under a name of its own. The functions that no
+edit changes are there by their statements alone. A function is proved from the contracts of what it calls, so that a copy is proved there from just what the
 function is proved from in its crate."""
 import argparse, glob, hashlib, os, re, runpy
 

@@ -106,7 +106,7 @@ def named(crate, edit):
     return found[0] if len(found) == 1 else None
 
 def place(crate, edit):
-    """Of an edit that changes the body of one function, and at most the proof of that function beside it: what `function_at` returns of it. Else None."""
+    """What `function_at` returns for an edit that changes the body of one function, and at most the proof of that function beside it. Else None."""
     texts, found, beside = {}, [], []
     for path, old, new in pairs_of(edit):
         if not os.path.isfile(f"{crate.folder}/{path}"):
@@ -200,9 +200,9 @@ def left_at(at, told):
     return [*dict.fromkeys([*names, *(it for it in at.taken if it not in stale)])]
 
 def refused_alone(group, told):
-    """Of a group, the edits whose function the prover refused for itself: it reports an open goal at the function's lines, or of an error in its
+    """The edits of a group whose function the prover refused for itself: it reports an open goal at the function's lines, or an error in its
     proof. That a function which it calls is refused too changes neither, since a function is proved from the contracts of what it calls. With what was
-    reported, and whether that shows little: no open goal, and of its proof only names that are gone."""
+    reported, and whether that shows little: no open goal, and in its proof only names that are gone."""
     refused = {}
     for edit, at in group.items():
         lines, goals, errors = re.findall(at.begins, told, re.M), goals_at(at, told), []

@@ -62,7 +62,7 @@ class Tables(Generic[Piece]):
         self.lengths, self.heads, self.null, self.nothing = lengths, heads, null, nothing
 
 
-# Of short fields and rows, for each width: a list is faster than a dictionary. Texts of one character for each byte are faster still,
+# The heads of short fields and rows, by width: a list is faster than a dictionary. Texts of one character for each byte are faster still,
 # since Python joins texts in half the time in which it joins bytes.
 SHORT_LENGTHS = [LENGTHS[it] for it in range(SHORT)]
 SHORT_TEXTS = [it.decode("latin-1") for it in SHORT_LENGTHS]

@@ -25,7 +25,7 @@ databases that cannot be bound. FOLDER/fedq-copies.json says what was done. The 
 the init file is written where --out is given.
 
 --check prints on standard output why a CREATE FOREIGN TABLE over FILE is refused, a line for each fault, and ends with 1 where
-there is one. Of a database FOLDER is the database, and FILE its table."""
+there is one. For a database FOLDER is the database, and FILE its table."""
 
 
 def usage_fault(said: str) -> int:

@@ -101,7 +101,7 @@ class Aligned(Writer):
         return text.isascii() and (NULL not in text or width_of(self.settings.null) == len(self.settings.null))
 
     def look_for_texts(self, fields: list[str]) -> None:
-        """Of columns whose type is not known: one with a field that is no number is aligned left, and one that has NULL alone."""
+        """Where a column's type is not known: one with a field that is no number is aligned left, and one that has NULL alone."""
         count = len(self.names)
         for at, known in enumerate(self.types):
             if self.is_right[at] and not known:
@@ -239,7 +239,7 @@ class Markdown(Writer):
         self.write("".join(self.row(it.split("\t"), self.settings.null) for it in text.split("\n")))
 
     def row(self, fields: list[str], null: str | None) -> str:
-        """A line of the table; `null` is shown for NULL. Of a line of marks, where it is None, nothing is escaped."""
+        """A line of the table; `null` is shown for NULL. Where it is None, for a line of marks, nothing is escaped."""
         cells = fields if null is None else [null if it == NULL and null else markdown_text(unescaped(it)) for it in fields]
         return f"| {' | '.join(cells)} |\n"
 

@@ -45,8 +45,8 @@ class BadWords(Exception):
 
 
 class Words:
-    """What the arguments say. Of `sources` each is (kind, name, path), and of `inputs` ("-c", SQL) or ("-f", FILE). `files` has of a source
-    that is one file of its folder the name of this file."""
+    """What the arguments say. Each of `sources` is (kind, name, path), each of `inputs` ("-c", SQL) or ("-f", FILE). Where a source is one file
+    of its folder `files` has the name of this file."""
     owner, user, output, port, format, null, save = "admin", "", "", 0, "", "\u2205", ""
     is_expanded = stops = asks_help = asks_version = makes_no_tables = False
 
