@@ -2,7 +2,7 @@
 import difflib, os
 from typing import Optional
 
-from .advice import Report
+from .advice import WARNING, Report
 
 NESTED = " is an object (line "  # a member whose own members are columns of a copy
 MOST_SAID = 3  # of the warnings on one file
@@ -31,11 +31,10 @@ def warnings_of(report: Report) -> Optional[str]:
     said = [it for it in report.warnings if not it.endswith(NO_TABLE)]
     if not said:
         return None
-    mark = "warning: "
-    plain = [it[len(mark):] if it.startswith(mark) else it for it in said]
+    plain = [it[len(WARNING):] if it.startswith(WARNING) else it for it in said]
     rest = [it[len(report.name):].lstrip(" :") if it.startswith(report.name) else it for it in plain[1:MOST_SAID]]
     more = len(said) - MOST_SAID
-    return "; ".join([mark + plain[0], *rest, *([f"and {more} more"] if more > 0 else [])])
+    return "; ".join([WARNING + plain[0], *rest, *([f"and {more} more"] if more > 0 else [])])
 
 
 def lacking(kind: str, path: str) -> Optional[str]:

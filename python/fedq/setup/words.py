@@ -3,7 +3,7 @@ import argparse, gc, os, sys
 from typing import Dict, List, Tuple
 
 from ..terminal import folder_word, path_word
-from .advice import Refused, say
+from .advice import WARNING, Refused, say
 from .check import check
 from .set_up import set_up, set_up_copies, sources_of
 
@@ -90,7 +90,7 @@ def copy_sources(words: argparse.Namespace) -> int:
         for line in report.lines():
             say(line)
     for line in made.warnings:
-        if line.startswith("warning: ") or made.failed:
+        if line.startswith(WARNING) or made.failed:
             say(line)
     start = " ".join(f"--{kind} {name}={folder_word(os.fspath(path))}" for kind, named in sources.items() for name, path in named.items())
     init = f" --init {path_word(words.out)}" if words.out else ""
