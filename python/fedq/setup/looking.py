@@ -2,6 +2,7 @@
 import difflib, os
 from typing import Optional
 
+from ..notes import COPIED
 from .advice import WARNING, Report
 
 NESTED = " is an object (line "  # a member whose own members are columns of a copy
@@ -13,7 +14,7 @@ def in_one_line(report: Report) -> Optional[str]:
     """What a report says, on one line: why the file is not bound, else what may surprise; and the words that make a plain copy, where that
     makes more of it than the command that is said. None where there is nothing to say."""
     said = faults_of(report) if report.faults else warnings_of(report)
-    makes_more = report.by_copy and (report.faults or NESTED in (said or "") or any(kind == "decimal" for _, kind in report.notes))
+    makes_more = report.by_copy and (report.faults or NESTED in (said or "") or any(kind in COPIED for _, kind in report.notes))
     if not said or not makes_more or not report.source or " --copy " in said:
         return said
     name = report.source.partition("=")[0].rpartition(" ")[2]
