@@ -198,6 +198,13 @@ def written_twice(texts: Iterable[str]) -> Optional[Tuple[str, str]]:
 BY_TEXT = "text, so sum is refused, and max, min, <, BETWEEN and ORDER BY go by characters"
 
 
+def kinds_of_notes(column: Column, look: Optional[Look], has_empty_texts: bool) -> List[str]:
+    """The kinds of `fedq.notes` of a column that is text and looks so; `has_empty_texts` is whether its empty cells are texts, not NULL."""
+    if look and look.kind:
+        return [look.kind] + ["two_ways"] * (look.kind == "decimal" and column.twice is not None)
+    return ["empty_text"] if column.count["empty"] and has_empty_texts else []
+
+
 def column_notes(report: Report, seen: List[Tuple[str, Column]], null: str, choice: str) -> Tuple[str, str]:
     """What may mislead in the columns that are text, in one line, and what does no harm. `seen` are these, each with its name; `choice`
     is what is said of their empty cells, if anything is. Their notes go to the report."""
@@ -211,10 +218,7 @@ def column_notes(report: Report, seen: List[Tuple[str, Column]], null: str, choi
             look = look._replace(said=f"{look.said}, and count counts its {column.count['empty']:,} empty cells")
         if look:
             (misled if look.misleads else calm).append(f"{name} {look.said}")
-        if look and look.kind:
-            report.notes += [(name, look.kind), *([(name, "two_ways")] if look.kind == "decimal" and column.twice else [])]
-        elif column.count["empty"] and null:
-            report.notes.append((name, "empty_text"))
+        report.notes += [(name, kind) for kind in kinds_of_notes(column, look, bool(null))]
         if null in column.nulls and null != "\\N" and not look:
             others.append(f"{name}: {shown(null)} is read as NULL here too (line {column.nulls[null]})")
     by_text = f"{BY_TEXT}: {listed(misled)}" if misled else ""

@@ -33,15 +33,29 @@ EMPTY_TEXT = "has empty texts, which are not NULL: IS NULL does not find them, c
 def column_hints(text: str, notes: Iterable[ColumnNote]) -> list[str]:
     """One line for each note of a column that a statement orders, compares, or (of one with empty texts) counts or tests for NULL, or (of
     one with a number in two ways) groups by."""
-    if not notes or len(text) > 20000:
-        return []
-    found = tokens(text)
+    return list(dict.fromkeys(map(said_of, matching(text, notes))))
+
+
+def noted_columns(text: str, notes: Iterable[ColumnNote]) -> list[tuple[str, str]]:
+    """The tables and columns of which `column_hints` says something."""
+    return list(dict.fromkeys((it.table, it.column) for it in matching(text, notes)))
+
+
+def said_of(note: ColumnNote) -> str:
+    """What is said of a note's column."""
+    name = quoted_name(note.column)
+    return f"hint: {name} {EMPTY_TEXT.format(name) if note.kind == 'empty_text' else SAID[note.kind]}"
+
+
+def matching(text: str, notes: Iterable[ColumnNote]) -> list[ColumnNote]:
+    """The notes that matter to what a statement does with their columns."""
+    found = tokens(text) if notes and len(text) <= 20000 else []
     is_read = bool(found) and found[0].kind == "word" and found[0].value in READERS
-    return list(dict.fromkeys(hints_of(found, notes))) if is_read else []
+    return list(matching_tokens(found, notes)) if is_read else []
 
 
-def hints_of(found: list[Token], notes: Iterable[ColumnNote]) -> Iterator[str]:
-    """The lines, one for each place where such a column stands."""
+def matching_tokens(found: list[Token], notes: Iterable[ColumnNote]) -> Iterator[ColumnNote]:
+    """The notes that matter, one for each place where such a column stands."""
     called = entries(found)
     noted = [(entry, note) for entry, table in called for note in notes if note.table == table]
     outputs, clauses = ordered_outputs(found), clauses_of(found)
@@ -55,13 +69,9 @@ def hints_of(found: list[Token], notes: Iterable[ColumnNote]) -> Iterator[str]:
         is_grouped = clauses[at] == "group" or clauses[at] == "distinct" and is_item(found, begin, at)
         is_by_text = not is_star and (at in outputs or is_compared(found, begin, at) or clauses[at] == "order")
         for note in (note for own, note in noted if entry in ("", own) and (is_star or note.column == it.value)):
-            name = quoted_name(note.column)
-            if note.kind == "empty_text" and not is_star and is_counted(found, begin, at):
-                yield f"hint: {name} {EMPTY_TEXT.format(name)}"
-            elif note.kind == "two_ways":
-                yield from [f"hint: {name} {SAID[note.kind]}"] if is_grouped else []
-            elif note.kind in SAID and (is_by_text or note.kind == "decimal" and not is_star and is_equated(found, begin, at)):
-                yield f"hint: {name} {SAID[note.kind]}"
+            is_one = {"empty_text": not is_star and is_counted(found, begin, at), "two_ways": is_grouped}.get(note.kind, is_by_text)
+            if is_one or note.kind == "decimal" and not is_star and is_equated(found, begin, at):
+                yield note
 
 
 def around(found: list[Token], begin: int, end: int) -> tuple[list[Token], list[Token]]:
