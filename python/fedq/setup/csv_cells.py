@@ -96,10 +96,9 @@ def kind_of(text: str) -> str:
     return look.lastgroup if look else "large" if WHOLE.fullmatch(text) else "text"
 
 
-@functools.lru_cache(maxsize=100_000)
 def unit_of(text: str) -> str:
     """The unit after a number."""
-    return re.sub(r"^[-+0-9.,' ]+", "", text).rstrip(" ")
+    return text.lstrip("+-0123456789.,' ").rstrip(" ")
 
 
 @functools.lru_cache(maxsize=100_000)
