@@ -14,7 +14,6 @@ from .parameters import STYLES
 Path = Union[str, "os.PathLike[str]"]
 Sources = Optional[Dict[str, Path]]
 OWNER = "admin"
-NOTICE = "note: "
 
 
 def connect(csv: Sources = None, jsonl: Sources = None, sqlite: Sources = None, lists: Union[str, Sequence[str]] = (), *,
@@ -70,6 +69,7 @@ def looked_at(sources: Dict[str, Dict[str, Path]], write: bool) -> List[str]:
                 raise InterfaceError(f"{os.fspath(path)} of {kind}={{'{name}': ..}} is a file: give the folder that it is in")
             if not os.path.isdir(path):
                 raise InterfaceError(f"the folder {os.fspath(path)} of {kind}={{'{name}': ..}} is not there")
+    from ..setup.advice import NOTICE, WARNING
     from ..setup.set_up import set_up, sources_of
     try:
         named = sources_of({kind: [f"{name}={os.fspath(path)}" for name, path in its.items()] for kind, its in sources.items()})
@@ -80,5 +80,6 @@ def looked_at(sources: Dict[str, Dict[str, Path]], write: bool) -> List[str]:
         raise ProgrammingError(f"{fault.filename}: {fault.strerror}") from None
     for it in made.warnings:
         if not it.startswith(NOTICE):
-            warnings.warn(printable(it), Warning, stacklevel=4)
+            said = it[len(WARNING):] if it.startswith(WARNING) else it  # (Python's `warnings` says itself that it is one)
+            warnings.warn(printable(said), Warning, stacklevel=4)
     return made.script

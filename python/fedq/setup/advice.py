@@ -7,6 +7,7 @@ from ..sql import RESERVED
 from ..terminal import path_word, printable
 
 MOST_SAID = 20
+WARNING, NOTICE = "warning: ", "note: "  # that such lines begin with
 NUL = "\U000fffff"  # (older readers of Python's csv take no U+0000)
 
 
@@ -39,11 +40,11 @@ class Report:
 
     def warn(self, text: str, line: Optional[int] = None) -> None:
         """Adds what may surprise."""
-        self.warnings.append("warning: " + self.place(line) + text)
+        self.warnings.append(WARNING + self.place(line) + text)
 
     def notice(self, text: str) -> None:
         """Adds what is good to know, and gives no wrong answer."""
-        self.notices.append("note: " + self.name + text)
+        self.notices.append(NOTICE + self.name + text)
 
     def leave_out(self, text: str, line: Optional[int] = None, out: str = "") -> None:
         """Adds what is not bound, and the way out."""

@@ -7,7 +7,7 @@ from ..sql import quoted_text
 from ..terminal import path_word, shell_word
 from .advice import Refused, Report, beside, json_text, listed, own_name, plain_name, shown
 from .csv_cells import Column, is_integer
-from .csv_files import MOST_COLUMNS, MOST_ROWS, column_notes
+from .csv_files import MOST_COLUMNS, MOST_ROWS, column_notes, written_twice
 from .files import content, packed
 
 
@@ -208,6 +208,12 @@ class Texts:
         return self.seen
 
 
+def see_twice(path: str, member: str, column: Column) -> None:
+    """Looks in a file for two texts of a member that are one number, where the texts are decimals."""
+    if column.is_decimal():
+        column.twice = written_twice(it[member] for _, it in read_lines(path) if isinstance(it.get(member), str))
+
+
 def bind_jsonl(path: str, report: Report) -> Optional[Tuple[list, str]]:
     """The columns of a file of JSON lines, as they are declared, and no further options; None where it cannot be bound."""
     kinds, counts, firsts, rows, looks, twice = {}, collections.Counter(), {}, 0, {}, {}
@@ -239,6 +245,7 @@ def bind_jsonl(path: str, report: Report) -> Optional[Tuple[list, str]]:
             columns.append(f"{quoted_name(name)} {own[0] if own else 'text'}{option}")
             if own == ["text"] and looks[member].column().kinds() - {"bit", "integer", "boolean"}:
                 texts.append((name, looks[member].column()))
+                see_twice(path, member, texts[-1][1])
         if len(columns) == before:
             report.unbound.append(member)
     say_left_out(report, path, out_left, *column_notes(report, texts, "", ""))

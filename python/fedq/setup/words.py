@@ -3,7 +3,7 @@ import argparse, gc, os, sys
 from typing import Dict, List, Tuple
 
 from ..terminal import folder_word, path_word
-from .advice import Refused, say
+from .advice import WARNING, Refused, say
 from .check import check
 from .set_up import set_up, set_up_copies, sources_of
 
@@ -20,8 +20,8 @@ fedq cannot see access control lists, so a write may widen who reads a file that
 source for reading alone; --write-acl binds them for writing all the same.
 
 --copy FOLDER makes plain copies of the sources in FOLDER, those anew whose source was changed since, and binds the copies: CSV with commas
-in UTF-8, a JSON object a line with members a_b for objects, whole numbers for decimals (price_x100), a month beside a date, and tables of
-databases that cannot be bound. FOLDER/fedq-copies.json says what was done. The sources stay as they are. Prints the arguments to start with;
+in UTF-8, a JSON object a line with members a_b for objects, whole numbers for decimals (price_x100) and for numbers with a unit (way_km),
+a month beside a date, and tables of databases that cannot be bound. FOLDER/fedq-copies.json says what was done. The sources stay as they are. Prints the arguments to start with;
 the init file is written where --out is given.
 
 --check prints on standard output why a CREATE FOREIGN TABLE over FILE is refused, a line for each fault, and ends with 1 where
@@ -90,7 +90,7 @@ def copy_sources(words: argparse.Namespace) -> int:
         for line in report.lines():
             say(line)
     for line in made.warnings:
-        if line.startswith("warning: ") or made.failed:
+        if line.startswith(WARNING) or made.failed:
             say(line)
     start = " ".join(f"--{kind} {name}={folder_word(os.fspath(path))}" for kind, named in sources.items() for name, path in named.items())
     init = f" --init {path_word(words.out)}" if words.out else ""

@@ -236,11 +236,10 @@ class Commands:
         lines = list(one(catalogue, name) if name else everything(catalogue))
         if not name and self.session.words.port:
             lines += [] if is_gateway else [OF_SERVED]
-        self.session.show_here(*(lines or [self.asked(name)]))
+        self.session.show_here(*(lines or self.asked(name)))
 
-    def asked(self, name: str) -> str:
-        """The columns of a table that the shell has not seen made, by the engine's answer."""
-        table = asked_table(self.session, name)
-        if table is None:
+    def asked(self, name: str) -> list[str]:
+        """What is shown of a table that the shell has not seen made, by the engine's answer."""
+        if asked_table(self.session, name) is None:
             raise Failed(f"no table or server {name} is known")
-        return f"foreign table {table}"
+        return list(one(self.session.catalogue, name))

@@ -1,4 +1,4 @@
-"""How rows are shown: as aligned tables, one field a line, CSV, lines with TABs, tables of Markdown, or JSON objects, one a line."""
+"""How rows are shown: as aligned tables, one field a line, CSV, lines with TABs, tables of Markdown, an array of JSON objects, or JSON lines."""
 from __future__ import annotations
 
 import re, unicodedata
@@ -186,8 +186,8 @@ class Csv(Writer):
         return '"' + text.replace('"', '""') + '"' if not text or NEEDS_QUOTES.search(text) else text
 
 
-class Json(Writer):
-    """JSON lines: an object a row. Whole numbers and booleans are so where the shell knows the column's type, and else texts."""
+class JsonLines(Writer):
+    """JSON lines: an object a row, on a line of its own. Whole numbers and booleans are so where the shell knows the column's type, and else texts."""
 
     def header(self) -> None:
         values = {"integer": str, "boolean": {"t": "true", "f": "false"}.get}
@@ -210,12 +210,27 @@ class Json(Writer):
         return encode_basestring(unescaped(field))
 
     def page(self, text: str) -> None:
-        self.write("".join(map(self.object, text.split("\n"))))
+        self.write("\n".join(map(self.object, text.split("\n"))) + "\n")
 
     def object(self, row: str) -> str:
         """An object of JSON, of the text of a row."""
         members = zip(self.heads, self.values, row.split("\t"))
-        return "".join([f"{head}{'null' if it == NULL else value(it)}" for head, value, it in members]) + "}\n"
+        return "".join([f"{head}{'null' if it == NULL else value(it)}" for head, value, it in members]) + "}"
+
+
+class Json(JsonLines):
+    """An array of JSON: an object a row, each on a line of its own. It is written as the rows come; without rows it is `[]`."""
+
+    def header(self) -> None:
+        super().header()
+        self.before = "["
+
+    def page(self, text: str) -> None:
+        self.write(self.before + ",\n".join(map(self.object, text.split("\n"))))
+        self.before = ",\n"
+
+    def end(self) -> None:
+        self.write(f"{'' if self.count else '['}]\n")
 
 
 class Tsv(Writer):
@@ -273,7 +288,7 @@ def writer(settings: Settings, types: list[str], write: Callable[[str], None]) -
     """What shows an answer by these settings; `types` are those of its columns, as far as they are known."""
     if settings.format == "aligned":
         return (Expanded if settings.is_expanded else Aligned)(settings, types, write)
-    return {"csv": Csv, "json": Json, "jsonl": Json, "tsv": Tsv, "markdown": Markdown}[settings.format](settings, types, write)
+    return {"csv": Csv, "json": Json, "jsonl": JsonLines, "tsv": Tsv, "markdown": Markdown}[settings.format](settings, types, write)
 
 
 def rows_text(names: list[str], rows: list[list[str]]) -> str:

@@ -8,6 +8,7 @@ from ..notes import comment_of, notes_of
 from ..terminal import printable, printable_rows
 from .catalogue import Catalogue, Parser
 from .column_hints import column_hints
+from .elsewhere import know_tables_of, notes_by_rows
 from .engine import Ended, Nobody, Reply
 from .hints import Hints
 from .keeper import OWNER, PERSON, WRITES, Broken, Keeper
@@ -41,7 +42,8 @@ class Session:
         self.settings, self.output, self.output_name = Settings(words), sys.stdout.buffer, ""
         self.is_terminal = sys.stdout.isatty()
         self.catalogue, self.notes = Catalogue(words.sources), []
-        self.hints = Hints(home, self.catalogue, words.user)
+        self.hints = Hints(home, self.catalogue, words.user, bool(words.port))
+        self.looked_at = {}  # the kinds of notes of a table's column, of an engine at a port
         self.last_statement = ""
         self.watcher, self.has_refused = Spinner() if sys.stderr.isatty() else Nobody(), False
         self.keeper = Keeper(home, words, interrupts, self.watcher, self.catalogue, self.tell)
@@ -95,7 +97,7 @@ class Session:
             self.note_cursor(statement.text, reply)
             self.show_answer(shown, reply)
             self.show_time(seconds)
-            hints = column_hints(statement.text, self.notes)
+            hints = column_hints(statement.text, notes_by_rows(self, statement.text) if self.words.port else self.notes)
             if hints:
                 self.tell(*hints)
         return bool(reply and not reply.code)
@@ -237,6 +239,7 @@ class Session:
         sentence = self.hints.sentence(reply.code)
         lines += [f"  {sentence}"] if sentence else []
         try:
+            self.hints.lists_tables = not self.words.port or know_tables_of(self, statement.text)
             with self.interrupts.allowed():
                 lines += [f"  {it}" for it in self.hints.lines(reply.code, statement.text)]
         finally:

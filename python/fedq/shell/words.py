@@ -4,7 +4,7 @@ from __future__ import annotations
 import os
 from collections.abc import Iterator
 
-# How rows are shown; `jsonl` is another name of `json`, which is an object a line too.
+# How rows are shown.
 FORMATS = ("aligned", "csv", "json", "jsonl", "tsv", "markdown")
 ENDINGS = {".csv": "csv", ".tsv": "tsv", ".json": "json", ".jsonl": "jsonl", ".md": "markdown"}  # (of a file to which rows are written)
 OTHER_FORMATS = set("table text tab md html latex xml yaml ndjson excel xlsx parquet arrow unaligned".split())  # (of other tools)
@@ -26,7 +26,8 @@ Its own:
       --connect PORT    speaks to an engine that `fedq serve --port PORT` serves, in place of one of its own
       --save FILE       writes what made the tables to FILE, for the next --init FILE
       --no-setup        makes no tables; so it is too where the statements begin with CREATE or DROP
-  -o, --format FORMAT   aligned (by default), csv, tsv, markdown, json or jsonl (both: one object a line)
+  -o, --format FORMAT   aligned (by default), csv, tsv, markdown, json (an array of objects),
+                        or jsonl (one object a line)
   -x, --expanded        one line for each field of a row
       --null TEXT       what is shown for NULL in tables, by default \u2205
   -o, --output FILE     writes rows to FILE, without a format as its name ends (.csv, .json ..);
