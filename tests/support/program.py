@@ -1,4 +1,4 @@
-"""`fedq run` over the sources of a folder: the statements that make their tables, what is asked, and the replies."""
+"""`fedq run` over the sources of a folder: the statements that make their tables, the requests, and the replies."""
 import os, subprocess
 from typing import Dict, Iterable, Iterator, List, Mapping, NamedTuple, Optional, Sequence, Tuple
 
@@ -39,7 +39,7 @@ def command(program: "str | os.PathLike[str]", words: Iterable[str]) -> List[str
 
 def ran(program: "str | os.PathLike[str]", words: Iterable[str], texts: Iterable[str], folder: "Optional[os.PathLike[str]]" = None, who: str = "admin",
         **more: object) -> "subprocess.CompletedProcess[bytes]":
-    """A whole run: one session of the user `who` asks these texts, one after the other. `more` is for `subprocess.run`."""
+    """A whole run: one session of the user `who` sends these texts, one after the other. `more` is for `subprocess.run`."""
     lines = "".join(f"1 {it}\n" for it in [f"OPEN {who}", *(f"Q {it}" for it in texts)])
     return subprocess.run(command(program, words), input=lines.encode(), capture_output=True, cwd=folder, **{"timeout": SECONDS, **more})
 
@@ -76,7 +76,7 @@ def unescaped(field: str) -> Optional[str]:
 
 
 class Running:
-    """The program, asked line by line. `said` is what it said on standard error, once it has ended by itself."""
+    """The program, with one request line at a time. `said` is what it said on standard error, once it has ended by itself."""
 
     def __init__(self, program: "str | os.PathLike[str]", words: Sequence[str], folder: "Optional[os.PathLike[str]]" = None) -> None:
         self.process = subprocess.Popen(command(program, words), cwd=folder, stdin=subprocess.PIPE, stdout=subprocess.PIPE, stderr=subprocess.PIPE)

@@ -158,7 +158,7 @@ class Column:
             not without or len(self.units) == 1)
 
     def is_decimal(self) -> bool:
-        """Whether its cells are numbers of which some have a point."""
+        """Whether its cells are numbers, and some have a point."""
         look = self.look()
         return look is not None and look.kind == "decimal"
 

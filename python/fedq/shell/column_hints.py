@@ -37,7 +37,7 @@ def column_hints(text: str, notes: Iterable[ColumnNote]) -> list[str]:
 
 
 def noted_columns(text: str, notes: Iterable[ColumnNote]) -> list[tuple[str, str]]:
-    """The tables and columns of which `column_hints` says something."""
+    """The tables and columns that `column_hints` has a line for."""
     return list(dict.fromkeys((it.table, it.column) for it in matching(text, notes)))
 
 

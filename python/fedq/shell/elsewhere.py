@@ -49,7 +49,7 @@ def asked_table(session: Session, name: str) -> Object | None:
 
 
 def know_tables_of(session: Session, text: str) -> bool:
-    """Asks for the tables that a statement names, or of a gateway for all; whether all that there are are known then."""
+    """Requests the tables that a statement names, or all of a gateway. Returns whether all are known then."""
     if know_tables(session):
         return True
     for _, name in entries(tokens(text)) if len(text) < MOST_READ else ():

@@ -36,7 +36,7 @@ SHAPES = (
 
 
 OF_FILES = "22P02", "HV00A", "HV00R", "54000", "HV004", "HV000"  # with which a table over a file is refused
-# What is said of an engine at a port, of which the shell knows the tables alone, and of `fedq serve` not all of these.
+# What is said of an engine at a port: the shell knows its tables alone, and those of `fedq serve` in part.
 NO_TABLES = "this engine does not list its tables: \\d NAME shows one"
 NO_OBJECTS = "an engine at a port does not list its wrappers and servers: they are in the script that it was started with"
 NO_SOURCES = "an engine at a port does not list its sources: they are in the command that it was started with"
@@ -44,8 +44,8 @@ NO_FILE = "the file is where the engine runs: its lines, and the members that no
 
 
 class Hints:
-    """Hints on the statements of one session. `is_elsewhere` is whether the engine is at a port, `lists_tables` whether it has told which
-    tables there are."""
+    """Hints on the statements of one session. `is_elsewhere` is whether the engine is at a port, `lists_tables` whether it has listed its
+    tables."""
 
     def __init__(self, home, catalogue, user, is_elsewhere=False) -> None:
         self.home, self.catalogue, self.user, self.is_set_up = home, catalogue, user, False
