@@ -1,5 +1,5 @@
-"""By what texts one check tries edits: beside a function stands a copy of it for each edit of its body, each under a name of its own, and the functions that no
-edit changes stand there by their statements alone. A function is proved from the contracts of what it calls, so that a copy is proved there from just what the
+"""The texts by which one check tries edits. Beside a function is a copy of it for each edit of its body, each under a name of its own. The functions that no
+edit changes are there by their statements alone. A function is proved from the contracts of what it calls, so that a copy is proved there from just what the
 function is proved from in its crate."""
 import argparse, glob, hashlib, os, re, runpy
 
@@ -14,13 +14,13 @@ pub {name}_spec : {{M : Type 1}} → stated.statement M
 {name}_spec = taken
 """
 # An answer to a goal that no function has. For each goal that a check leaves open it searches once more, to offer a file for the function's proof; but for none
-# of a function of which it refuses an answer. Whether a goal is open the refusal of this one changes nothing of.
+# of a function that has a refused answer. The refusal of this one does not change whether a goal is open.
 REFUSED = """pub {answer} : {goal}.{answer}
 {answer} c = tt
 """
 
 # An answer to a goal that was left beside another one when an edit was tried before: a hole, which is no proof. One goal is enough to refuse an edit, and the
-# prover is asked for that one alone then.
+# prover looks for that one alone then.
 TAKEN = """pub {name} : {goal}.{name}
 {name} = ?
 """
@@ -30,7 +30,7 @@ def functions(crate):
     return {*re.findall(rf'"(?:part/)?Rattle-{crate.name}-proofs\.([^"]*)\.Code"', where.text_of(f"{crate.rlib}/toolchain/checked.json"))}
 
 def name_in(functions, at):
-    """What the crate's library names a function, or None where that cannot be told."""
+    """What the crate's library names a function, or None where that is not known."""
     found = [it for it in functions if re.fullmatch(at.own, f"proofs/{it.replace('.', '/')}/")]
     return found[0] if len(found) == 1 else None
 
@@ -45,12 +45,12 @@ def with_refused(crate, name, text):
     return goal and f"{text or f'{goal[0]}{chr(10)}'}\n{REFUSED.format(answer=where.REFUSED, goal=goal[1])}"
 
 def with_taken(text, names):
-    """A function's answers, of which one is refused, with holes for these goals, each where its answer stands; and of which that was done: of those that have no
+    """A function's answers, one of them refused, with holes for these goals, each where its answer is; and the goals that have a hole now: those that have no
     answer or one of the usual form."""
     goal, done = re.search(rf"^pub {where.REFUSED} : (\S+)\.", text, re.M)[1], []
     for name in names:
         hole, word = TAKEN.format(name=name, goal=goal), re.escape(name)
-        # (an answer ends in front of an empty line, or of one that begins another declaration)
+        # (an answer ends before an empty line, or of one that begins another declaration)
         answer = re.search(rf"^pub {word} : {goal}\.{word}\n(?:(?:{word} |[ )}}\]])[^\n]*\n)+", text, re.M)
         if answer or not re.search(rf"^(?:pub )?{word} ", text, re.M):
             text = f"{text[:answer.start()]}{hole}{text[answer.end():]}" if answer else f"{text}\n{hole}"
@@ -58,7 +58,7 @@ def with_taken(text, names):
     return text, tuple(done)
 
 def proofs_in(crate, functions, at):
-    """Below which name the proof stands of a function that is edited where it is, or None where that cannot be told."""
+    """Below which name the proof is of a function that is edited where it is, or None where that is not known."""
     found = {os.path.relpath(it, f"{crate.folder}/proofs").replace("/", ".") for it in glob.glob(f"{glob.escape(crate.folder)}/proofs/**/", recursive=True)}
     found = [it for it in found if re.fullmatch(at.folder, f"proofs/{it.replace('.', '/')}/")] if at.in_cycle else [name_in(functions, at)]
     return found[0] if len(found) == 1 and not at.calls_itself else None
@@ -69,7 +69,7 @@ def of_cycle(crate, at):
     return [os.path.relpath(it, crate.folder) for it in found]
 
 class Copy:
-    """A function as it stands with an edit, or as it is, under another name: its text, the files of its proof by their paths, and which the edit changes."""
+    """A function with an edit, or as it is, under another name: its text, the files of its proof by their paths, and which the edit changes."""
     def __init__(self, crate, name, at, edit, new):
         texts = where.applied(crate, [edit]) if edit else {}
         text = texts.get(at.path) or where.text_of(f"{crate.folder}/{at.path}")
@@ -85,12 +85,12 @@ class Copy:
             self.changed |= {to} if path in texts else set()
 
 def drawn(crate, group, edits):
-    """One of these edits, by their names: of its function an unchanged copy stands beside the others. Its proof waits for no function that is edited there."""
+    """One of these edits, by their names: of its function an unchanged copy is beside the others. Its proof waits for no function that is edited there."""
     cycles, stay = where.cycles_of(crate), [it for it in group.values() if not it.has_copies]
     return min([it for it in edits if where.is_apart(group[it], stay, cycles)] or edits, key=lambda it: hashlib.sha256(os.path.basename(it).encode()).digest())
 
 def copies_of(crate, functions, group):
-    """Of a group of edits the copies that one check tries, the last of which is unchanged."""
+    """The copies that one check tries of a group of edits. The last one is unchanged."""
     found = [(it, at, name_in(functions, at)) for it, at in group.items() if at.has_copies]
     made = [Copy(crate, name, at, edit, f"{at.name}_edit{number}") for number, (edit, at, name) in enumerate(found) if name]
     if made:
@@ -99,9 +99,9 @@ def copies_of(crate, functions, group):
     return made
 
 def by_statement(crate, functions, path, text, edited):
-    """A file's text in which the functions that are not edited stand by their statements, their bodies a loop that never ends, since nothing of a body is asked
-    there but, in a crate that names `dyn`, which values a `dyn` type has; and what stands in place of their proofs, by path, None for a file that is gone. With
-    such a body a function of a cycle of calls is in none: it stands so where none of that cycle is edited."""
+    """A file's text in which the functions that are not edited have their statements, their bodies a loop that never ends, since nothing of a body is needed
+    there but, in a crate that names `dyn`, which values a `dyn` type has; and what is in place of their proofs, by path, None for a file that is gone. With
+    such a body a function of a cycle of calls is in none: it is written so where none of that cycle is edited."""
     files, bodies, gone, folders, cycles = {}, [], [], {it.folder for it in edited}, {it.cycle for it in edited}
     names_dyn = any(re.search(r"\bdyn\b", where.text_of(it)) for it in glob.glob(f"{glob.escape(crate.folder)}/src/**/*.rt", recursive=True))
     for head in where.HEAD.finditer(text):
@@ -121,9 +121,9 @@ def by_statement(crate, functions, path, text, edited):
     return text, files
 
 def of_group(crate, functions, group, left={}):
-    """What stands in a check of a group of edits in place of the crate's own files, by path, None for a file that is gone; which of these an edit changes; where
-    each edit stands there; and where the copy stands that has none. Or None where the edits cannot stand beside each other. Of an edit of which more goals
-    than one were `left` before the first alone is asked, where its function is in no cycle of calls."""
+    """What a check of a group of edits has in place of the crate's own files, by path, None for a file that is gone; which of these an edit changes; where
+    each edit is there; and where the copy is that has none. Or None where the edits cannot be tried together. Where an edit had more goals
+    than one `left` before, the first alone is tried, where its function is in no cycle of calls."""
     made, stay = copies_of(crate, functions, group), {it: at for it, at in group.items() if not at.has_copies}
     if (texts := where.applied(crate, [*stay])) is None:
         return None
@@ -148,14 +148,14 @@ def of_group(crate, functions, group, left={}):
     return argparse.Namespace(files=files, changed=changed, places=places, unchanged=unchanged)
 
 def places_in(crate, path, text, made, stay):
-    """Where in a file's text the copies stand, by their edits, and the edited functions that have none."""
+    """Where in a file's text the copies are, by their edits, and the edited functions that have none."""
     heads, names = [*where.HEAD.finditer(text)], {it.new for it in made}
     copied, own = {it[2]: it for it in heads}, [it for it in heads if it[2] not in names]
     found = {it.edit: copied[it.new] for it in made} | {edit: own[at.number] for edit, at in stay.items() if at.path == path}
     return {edit: where.function_of(crate, path, text, head) for edit, head in found.items()}
 
 def beside(crate, path, text, made):
-    """A file's text with each of these copies behind the function that it is of."""
+    """A file's text with each of these copies after the function that it is of."""
     heads, lines = [*where.HEAD.finditer(text)], text.splitlines(True)
     for copy in sorted(made, key=lambda it: it.at.number, reverse=True):
         lines.insert(where.function_of(crate, path, text, heads[copy.at.number]).lines.stop - 1, f"\n{copy.text}")

@@ -1,12 +1,12 @@
-"""Where a must-fail edit stands, which edits of a crate one check can try, and what that check tells of each."""
+"""Where a must-fail edit is, which edits of a crate one check can try, and what that check reports of each."""
 import argparse, glob, os, re
 
-# Why a refusal shows little, in the kit's words; and what it tells of a proof file then (a name of a goal that is gone, or what cites that proof).
+# Why a refusal shows little, in the kit's text; and what it reports of a proof file then (a name of a goal that is gone, or what cites that proof).
 LITTLE = "only because a proof file names what the edit took away"
 NAMES = re.compile(r"has no field|is not in scope|has no `")
 # The name of an answer to a goal that no function has, which a check is to refuse.
 REFUSED = "no-goal-has-this-name"
-# Of so many edits at most one check tries copies.
+# One check tries copies of this many edits at most.
 MOST = 60
 # Methods that are called also where nothing names them: by `?`, and by comparisons.
 UNNAMED = {"from", "eq", "cmp", "partial_cmp"}
@@ -39,7 +39,7 @@ def above(text, head):
     return [*re.finditer(r"^(?:unsafe )?(?:impl|(?:pub(?:\(\w+\))? )?trait)\b[^{]*\{", text[: head.start()], re.M)]
 
 def type_around(text, head):
-    """How a check names the type that a method is of, with the trait that it implements: none of a function, and None where that cannot be told."""
+    """How a check names the type that a method is of, with the trait that it implements: none of a function, and None where that is not known."""
     if not head[1]:
         return ""
     around = above(text, head)
@@ -59,10 +59,10 @@ def type_around(text, head):
     return named and (named[1] or ("Any" if is_any else named[3]) + (named[2] or "") + given)
 
 def function_of(crate, path, text, head):
-    """What a check tells of the function that begins here, or None where that cannot be said: its number in its file, its name, and whether and in
-    which cycle of calls it is, or calls itself; whether a copy of it can stand beside it; the name that `--only` takes; the folder that its proof has where it is
+    """What a check reports of the function that begins here, or None where that is not known: its number in its file, its name, and whether and in
+    which cycle of calls it is, or calls itself; whether a copy of it can be beside it; the name that `--only` takes; the folder that its proof has where it is
     in no cycle; how a check's line of it begins (a method's under the module of its type, which may be another than this file's); the folder of its proof, or of
-    its cycle's, a file that was made there for the check alone, and where goals are taken there, the one that is asked, and these; its file, the words of its
+    its cycle's, a file that was made there for the check alone, and where goals are taken there, the one that is tried, and these; its file, the words of its
     text, its lines, and its body's place there."""
     kind = type_around(text, head)
     # (an edit can begin on the head's own line, and that of a law can be empty)
@@ -106,7 +106,7 @@ def named(crate, edit):
     return found[0] if len(found) == 1 else None
 
 def place(crate, edit):
-    """Of an edit that changes the body of one function, and at most the proof of that function beside it: what `function_at` tells of it. Else None."""
+    """What `function_at` returns for an edit that changes the body of one function, and at most the proof of that function beside it. Else None."""
     texts, found, beside = {}, [], []
     for path, old, new in pairs_of(edit):
         if not os.path.isfile(f"{crate.folder}/{path}"):
@@ -148,7 +148,7 @@ def groups_of(crate, edits):
     return found, others
 
 def cycles_of(crate):
-    """The words of each function of the crate that is in a cycle of calls, by its name: their proof stands in a check that edits one of them."""
+    """The words of each function of the crate that is in a cycle of calls, by its name: their proof is in a check that edits one of them."""
     cycles = {}
     for path in glob.glob("src/**/*.rt", root_dir=crate.folder, recursive=True):
         text = text_of(f"{crate.folder}/{path}")
@@ -172,7 +172,7 @@ def fits(crate, group, edit, at, cycles):
     return is_left and not any(are_tied(at, it) for it in group.values()) and applied(crate, [*stay, edit]) is not None
 
 def are_tied(at, other):
-    """Whether one check cannot tell of both functions, of which the first has no copies: they are one, or one names the other. Those of a cycle of calls have one
+    """Whether one check cannot report of both functions, where the first has no copies: they are one, or one names the other. Those of a cycle of calls have one
     proof, in which what is open of one is open of no other: each is proved from the statements of all."""
     names = at.name in other.words or not other.has_copies and other.name in at.words
     return at.who == other.who or names and not (at.in_cycle and at.cycle == other.cycle)
@@ -185,13 +185,13 @@ def goals_at(at, told):
 def errors_at(at, told):
     """The errors in the proof of a function, each without its place: of one in a cycle of calls those of its own goals."""
     found = re.findall(rf"^(?:note: )?(?:\./)?({at.folder}\S*?):\d+:\d+: error: ({f'`{at.name}-' if at.in_cycle else ''}.*)$", told, re.M)
-    # (that something is not admitted tells of that, and not of this proof; nor does the answer that is to be refused)
+    # (that something is not admitted is reported of that, and not of this proof; nor does the answer that is to be refused)
     errors = [it for path, it in found if "was not admitted" not in it and path.removeprefix("./") != at.made]
     return [it for it in errors if f"`{REFUSED}`" not in it]
 
 def left_at(at, told):
-    """The names of the goals that a check leaves open at a function's lines, whose answers it refuses, or that were taken there: those first of which it shows
-    values at which they are false, then those that it finds no proof of, and last the answers, of which some only name what is gone."""
+    """The names of the goals that a check leaves open at a function's lines, whose answers it refuses, or that were taken there: first those for which it shows
+    values at which they are false, then those that it finds no proof of, and last the answers, some of them only naming what is gone."""
     goals, errors = goals_at(at, told), [it for it in errors_at(at, told) if not it.startswith(tuple(f"`{name}`" for name in at.taken))]
     goals = sorted(goals, key=lambda it: ("allow values at which" not in it) + ("gave up" in it))
     names = [name for it in goals for name in re.findall(r"\(`([^`\s]+)`\)", it)]
@@ -200,9 +200,9 @@ def left_at(at, told):
     return [*dict.fromkeys([*names, *(it for it in at.taken if it not in stale)])]
 
 def refused_alone(group, told):
-    """Of a group, the edits whose function the prover refused for itself: it tells of an open goal at the function's lines, or of an error in its
+    """The edits of a group whose function the prover refused for itself: it reports an open goal at the function's lines, or an error in its
     proof. That a function which it calls is refused too changes neither, since a function is proved from the contracts of what it calls. With what was
-    told, and whether that shows little: no open goal, and of its proof only names that are gone."""
+    reported, and whether that shows little: no open goal, and in its proof only names that are gone."""
     refused = {}
     for edit, at in group.items():
         lines, goals, errors = re.findall(at.begins, told, re.M), goals_at(at, told), []
@@ -211,7 +211,7 @@ def refused_alone(group, told):
             goals += [line for line in lines if "`search` did not prove" in line and not at.in_cycle]
             errors = errors_at(at, told)
         if at.taken:
-            # (one goal alone was asked)
+            # (one goal alone was tried)
             goals, errors = [it for it in goals if f"`{at.asked}`" in it], [it for it in errors if it.startswith(f"`{at.asked}`")]
         little = not goals and all(map(NAMES.search, errors))
         if (goals or errors) and not any(is_whole(it) for it in lines):
@@ -223,13 +223,13 @@ def is_whole(line):
     return line == "proved" or line.startswith(("no holes", "depends on a hole in "))
 
 def is_whole_at(at, told):
-    """Whether a check tells of this function, and that nothing of its own is left to prove but the answer that is to be refused."""
+    """Whether a check reports this function, and that nothing of its own is left to prove but the answer that is to be refused."""
     lines = re.findall(at.begins, told, re.M)
     is_left = re.search(rf"^(?:note: )?{at.folder}\S*?:\d+:\d+: error: `{REFUSED}`", told, re.M)
     return len(lines) == 1 and (is_whole(lines[0]) or is_left and lines[0].startswith("not proved")) and not refused_alone({None: at}, told)
 
 def errors_elsewhere(places, told):
-    """The files in which a check tells of an error, and that are not of the proofs of these functions."""
+    """The files in which a check reports an error, and that are not of the proofs of these functions."""
     files = re.findall(r"^(?:note: )?((?:\./)?(?:specs|proofs)/\S+?):\d+:\d+: error", told, re.M)
     return sorted({it for it in files if not any(re.match(at.folder, it) for at in places)})
 

@@ -1,4 +1,4 @@
-"""What `check` asks of the toolchain's `rt`, for a kit whose `rt ci` keeps nothing and tries a crate's edits in turn: a store beside the kit, by the sum of
+"""What `check` needs of the toolchain's `rt`, for a kit whose `rt ci` keeps nothing and tries a crate's edits in turn: a store beside the kit, by the sum of
 all that a result rests on; what an edit came to, by kind; and the edits as tasks of their own.
 """
 import argparse, functools, hashlib, json, os, shutil, tempfile
@@ -94,7 +94,7 @@ def store_for(rt, lib):
     return Kept
 
 def extend(rt, lib):
-    """Gives a kit's `rt` what it lacks."""
+    """Adds to a kit's `rt` what it lacks."""
     its = argparse.Namespace(ci=rt.ci, crate_ci=rt.Crate.ci, crates=rt.crates_of, lanes=rt.in_lanes, must_fail=rt.must_fail)
     rt.REFUSED, rt.AT_LIMIT, rt.BAD, rt.UNSURE, rt.SETTLED, rt.SEEDS = REFUSED, AT_LIMIT, BAD, UNSURE, SETTLED, []
     rt.Kept, rt.linked = store_for(rt, lib), shutil.copytree
@@ -149,7 +149,7 @@ def extend(rt, lib):
         finally:
             for it in rt.SEEDS:
                 shutil.rmtree(it, ignore_errors=True)
-    # (a crate's stamp is asked of all that stands below it, along every way down, of which there are very many)
+    # (a crate's stamp needs that of every crate below it, along every way down, and there are very many ways)
     stamps, stamp = {}, rt.Crate.stamp
     rt.Crate.stamp = lambda crate: stamps.get(crate.folder) or stamps.setdefault(crate.folder, stamp(crate))
     rt.must_fail, rt.Crate.ci, rt.crates_of, rt.in_lanes, rt.ci = must_fail, crate_ci, crates_of, in_lanes, ci

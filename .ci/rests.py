@@ -3,7 +3,7 @@ was left of it then, which is in no sum.
 
 It rests on the edit; on the function that it changes; on the heads, with their contracts, of what that names and of what the traits of its types may run;
 on the types, constants and imports that it names; on its stored proof; and on the files of specs/ and proofs/ that any of these use. An edit that changes
-no body of one function rests on all files of its crate. What stands in other crates is in no sum, nor the kit: of what is imported from there the names
+no body of one function rests on all files of its crate. What is in other crates is in no sum, nor the kit: of what is imported from there the names
 count, and not the modules that pass them on.
 """
 import functools, glob, hashlib, os, re
@@ -26,8 +26,8 @@ def above(text, at):
     return re.search(r"(?:^(?! *//)[^\n]*[^{};\n]\n)*\Z", text[:at], re.M).start()
 
 def end_of(text, found, opens):
-    """Where the item ends that begins there: of a function where its body opens, behind all its clauses, or at its semicolon; and else where the line that it
-    stands on closes it, or one behind."""
+    """Where the item ends that begins there: of a function where its body opens, after all its clauses, or at its semicolon; and else where the line that it
+    is on closes it, or a later one."""
     if opens:
         first = re.compile(rf"^{found[1]}(?:\S[^\n]*)?\{{$|;$", re.M).search(text, found.start())
     else:
@@ -35,7 +35,7 @@ def end_of(text, found, opens):
     return first.end() if first else len(text)
 
 class Texts:
-    """The files of a crate, and what stands in them under each name."""
+    """The files of a crate, and what is in them under each name."""
     def __init__(self, folder):
         self.folder, self.name = folder, os.path.basename(folder)
         files = sorted(it for part in ("src", "specs", "proofs")

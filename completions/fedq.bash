@@ -1,4 +1,4 @@
-# Completion of bash for fedq, fedq-shell, fedq-setup and fedq-gateway: their words, and files behind NAME=, --init, --out and --check.
+# Completion of bash for fedq, fedq-shell, fedq-setup and fedq-gateway: their arguments, and files after NAME=, --init, --out and --check.
 
 _fedq() {
     local current=${COMP_WORDS[COMP_CWORD]} before=${COMP_WORDS[COMP_CWORD - 1]} words

@@ -19,7 +19,7 @@ def program() -> NoReturn:
 
 
 def room(name: str, *words: str) -> NoReturn:
-    """Runs a room of this package as a command, with these words before those of the command line, over the program in this package where
+    """Runs a module of this package as a command, with these arguments before those of the command line, over the program in this package where
     FEDQ_PROGRAM names no other. Texts are UTF-8, whatever the locale says."""
     if locale.getpreferredencoding(False).upper().replace("-", "") != "UTF8" and not sys.flags.utf8_mode:
         os.execv(sys.executable, [sys.executable, "-X", "utf8", *sys.argv])

@@ -8,9 +8,11 @@ from typing import Iterable, List
 
 from .names import quoted_name
 
-# Numbers with a point; dates that begin with the day; cells of several kinds; a text column with empty cells.
-KINDS = ("decimal", "day_first_date", "mixed", "empty_text")
-# A comment may end a line of a script, and stands in no line of its own: `fedq run --init` takes one statement a line.
+# Numbers with a point; a number that is written in two ways; numbers with one unit, and with several; dates that begin with the day; cells
+# of several kinds; a text column with empty cells.
+KINDS = ("decimal", "two_ways", "unit", "units", "day_first_date", "mixed", "empty_text")
+COPIED = {"decimal", "unit"}  # `fedq-setup --copy` makes whole numbers of these
+# A comment may end a line of a script, and has no line of its own: `fedq run --init` takes one statement a line.
 MARK = "-- columns: "
 NAME = r'("(?:[^"]|"")*"|[^\s".,]+)'
 NOTE = re.compile(rf"{NAME}\.{NAME} ({'|'.join(KINDS)})(?=,|\s*$)")

@@ -95,7 +95,7 @@ class Member:
         self.check("CLOSE", self.client.query("CLOSE c").tags, ["CLOSE CURSOR"])
 
     def run(self, count: int) -> None:
-        """So many steps, drawn at random."""
+        """Steps drawn at random."""
         try:
             for _ in range(count):
                 self.pick.choice([self.insert, self.insert, self.update, self.delete, self.read, self.read, self.cursor])()
@@ -105,7 +105,7 @@ class Member:
 
 
 def crowd(clients: int, steps: int, seed: int = 1) -> Cases:
-    """What lets so many clients do so many steps each at once."""
+    """Lets clients do steps at once, each the given number."""
 
     def many_clients(gateway: Gateway) -> Iterator[Case]:
         members = [Member(gateway, number, seed) for number in range(1, clients + 1)]

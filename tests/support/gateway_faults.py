@@ -1,4 +1,4 @@
-"""Clients that break off, lie or ask for too much, and an engine that is killed: nobody else is disturbed, nothing stays held, and nothing
+"""Clients that break off, lie or request too much, and an engine that is killed: nobody else is disturbed, nothing stays held, and nothing
 hangs."""
 import random, socket, struct, threading, time
 from typing import Any, Callable, Dict, Iterator, List, Optional, Tuple
@@ -17,7 +17,7 @@ WRITE = "UPDATE orders SET n = n WHERE no = 10"
 
 
 class Others:
-    """A client that asks a short query again and again beside something else; `longest` is the longest time that it waited, in seconds."""
+    """A client that sends a short query again and again beside something else; `longest` is the longest time that it waited, in seconds."""
 
     def __init__(self, gateway: Gateway) -> None:
         self.client, self.times, self.wrong, self.ends = (
@@ -29,7 +29,7 @@ class Others:
         self.thread = threading.Thread(target=self.ask)
 
     def ask(self) -> None:
-        """Asks until it is ended."""
+        """Sends queries until it is ended."""
         while not self.ends:
             begin = time.monotonic()
             try:
@@ -60,7 +60,7 @@ class Others:
 
 
 def begun(gateway: Gateway, data: bytes, reads: int = 0) -> Client:
-    """A client that has sent these bytes, and has read so many messages of what came back."""
+    """A client that has sent these bytes, and has read the given number of messages of what came back."""
     it = gateway.connect("cut")
     it.send(data)
     for _ in range(reads):
@@ -95,7 +95,7 @@ STATES: Dict[str, Callable[[Gateway], Client]] = {
     "before its start": lambda gateway: bare(gateway, b""),
     "within its start": lambda gateway: bare(gateway, startup("cut")[:9]),
     "once its start was sent, during OPEN": lambda gateway: bare(gateway, startup("cut")),
-    "during OPEN, with a cursor behind it": lambda gateway: bare(gateway, startup("cut") + message(b"Q", text(CURSOR))),
+    "during OPEN, with a cursor after it": lambda gateway: bare(gateway, startup("cut") + message(b"Q", text(CURSOR))),
     "idle": asked("SELECT 1"),
     "within a message": lambda gateway: begun(gateway, message(b"Q", text(WRITE))[:12]),
     "after Parse": lambda gateway: begun(gateway, parse("SELECT no FROM orders", "s") + FLUSH, 1),
@@ -198,7 +198,7 @@ def killed_states() -> Dict[str, Tuple[Callable[[Gateway], Client], bool]]:
 
 
 def killed(gateway: Gateway) -> Iterator[Case]:
-    """The engine is killed in each state: who was at work is answered 57P01, everybody's next statement is answered, objects made stay."""
+    """The engine is killed in each state: a client that was at work is answered 57P01, everybody's next statement is answered, objects made stay."""
     (gateway.folder / "files/more.csv").write_text("n\n7\n", encoding="utf-8")
     with gateway.connect() as owner, gateway.connect("ann") as ann:
         yield "an object", owner.query(
@@ -353,7 +353,7 @@ def answered_whole(gateway: Gateway, data: bytes) -> bool:
 
 
 def random_messages(count: int, seed: int = 1) -> Cases:
-    """What sends so many clients' random messages."""
+    """Sends random messages of the given number of clients."""
 
     def messages_at_random(gateway: Gateway) -> Iterator[Case]:
         pick = random.Random(seed)
@@ -372,7 +372,7 @@ def random_messages(count: int, seed: int = 1) -> Cases:
     return messages_at_random
 
 
-# Statements that ask for too much
+# Statements that need too much
 
 ENDLESS = "WITH RECURSIVE r(n) AS (SELECT 1 UNION ALL SELECT n + 1 FROM r) SELECT count(*) FROM r, pg_catalog.pg_class"
 HOSTILE = [
@@ -430,7 +430,7 @@ def memory(pid: int) -> int:
 
 
 def hostile(gateway: Gateway) -> Iterator[Case]:
-    """Queries of the catalogue that ask for too much are refused or end in 5 seconds, others go on meanwhile, and no file is touched."""
+    """Queries of the catalogue that need too much are refused or end in 5 seconds, others go on meanwhile, and no file is touched."""
     limit = 1.0
     for pattern in HOSTILE:
         sql = pattern.replace("{0}", str(gateway.folder))

@@ -439,7 +439,7 @@ def rights(gateway: Gateway) -> Iterator[Case]:
 
 
 def catalogue(gateway: Gateway) -> Iterator[Case]:
-    """What drivers ask of pg_catalog and information_schema."""
+    """Queries of drivers over pg_catalog and information_schema."""
     tables = ["big", "mid", "orders", "parts", "people", "sales", "staff"]
     wanted: List[Tuple[str, List[Tuple[Optional[str], ...]]]] = [
         ("SELECT table_name FROM information_schema.tables WHERE table_schema = 'public' ORDER BY 1", [(it,) for it in tables]),

@@ -1,4 +1,4 @@
-"""The words of the gateway: what does not start, passwords, sockets, TLS, the port of lines, and how it ends."""
+"""The arguments of the gateway: what does not start, passwords, sockets, TLS, the port of lines, and how it ends."""
 import os, pathlib, re, shutil, signal, socket, ssl, stat, struct, subprocess, time
 from typing import Iterator, List, Optional, Tuple
 
@@ -32,7 +32,7 @@ def passwords(gateway: Gateway) -> Iterator[Case]:
 
 
 def broken_exchanges(gateway: Gateway) -> Iterator[Case]:
-    """Exchanges that are not whole, or that ask for another mechanism."""
+    """Exchanges that are not whole, or that request another mechanism."""
     first = b"n,,n=,r=abcdefghijklmnop"
     whole = b"SCRAM-SHA-256\0" + struct.pack("!I", len(first)) + first
     for what, data in [
@@ -68,11 +68,11 @@ def exchange(gateway: Gateway, answers: List[bytes]) -> bool:
         return kind == b"E" and any(code in body for code in (b"C28P01\0", b"C28000\0", b"C08P01\0"))
 
 
-# Words and files
+# Arguments and files
 
 
 def started(program: str, folder: pathlib.Path, *words: str) -> Tuple[Optional[int], str]:
-    """How a gateway with these words ends within 10 seconds: its exit status and standard error."""
+    """How a gateway with these arguments ends within 10 seconds: its exit status and standard error."""
     env = {**os.environ, "FEDQ_PROGRAM": program}
     made = subprocess.Popen(
         [*command(), *words], cwd=folder, env=env, stdin=subprocess.DEVNULL, stdout=subprocess.DEVNULL, stderr=subprocess.PIPE, text=True
@@ -144,7 +144,7 @@ def lines_port(gateway: Gateway) -> Iterator[Case]:
 
 
 def of_lines(of: socket.socket, count: int) -> bytes:
-    """What comes, up to so many bytes, or as far as it comes within 3 seconds."""
+    """What comes, up to `count` bytes, or as far as it comes within 3 seconds."""
     made = b""
     of.settimeout(3)
     try:
@@ -206,7 +206,7 @@ def tls(gateway: Gateway) -> Iterator[Case]:
             went_on = "it goes on"
         except (OSError, ValueError) as fault:
             went_on = "closed"
-        yield "bytes in plain behind SSLRequest", (found in (b"S", b"E", b""), went_on), (True, "closed")
+        yield "bytes in plain after SSLRequest", (found in (b"S", b"E", b""), went_on), (True, "closed")
     with Client(gateway.port, begins=False) as it:
         it.send(struct.pack("!II", 8, SSL_REQUEST))
         it.take(1)
@@ -259,7 +259,7 @@ def with_ports(program: str) -> Gateway:
 
 
 def with_users(program: str) -> Gateway:
-    """A gateway that asks for passwords."""
+    """A gateway that requires passwords."""
     return Gateway(program, users={"admin": "secret", "ann": "päss wörd,="})
 
 

@@ -40,13 +40,13 @@ def free_port() -> int:
 
 
 def command() -> List[str]:
-    """The words that start a gateway: FEDQ_GATEWAY, or fedq-gateway at the top of the checkout."""
+    """The command that starts a gateway: FEDQ_GATEWAY, or fedq-gateway at the top of the checkout."""
     given = os.environ.get("FEDQ_GATEWAY")
     return shlex.split(given) if given else [str(TOP / "fedq-gateway")]
 
 
 def numbers(path: pathlib.Path, count: int) -> None:
-    """A CSV file of so many rows: id, grp of a hundredth of them, a name, a flag."""
+    """A CSV file of `count` rows: id, grp of a hundredth of them, a name, a flag."""
     with open(path, "w", encoding="utf-8") as it:
         it.write("id,grp,name,flag\n")
         it.writelines(f"{row},{row % 100},name {row * 7919 % count},{'t' if row % 3 else 'f'}\n" for row in range(count))

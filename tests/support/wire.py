@@ -127,7 +127,7 @@ def parse(sql: str, name: str = "", oids: Sequence[int] = ()) -> bytes:
 def bind(
     values: Sequence[Optional[bytes]] = (), portal: str = "", name: str = "", forms: Sequence[int] = (), results: Sequence[int] = ()
 ) -> bytes:
-    """A Bind message. `forms` are the formats of the values, `results` those asked for the columns: 0 is text, 1 is binary."""
+    """A Bind message. `forms` are the formats of the values, `results` those requested for the columns: 0 is text, 1 is binary."""
     body = text(portal) + text(name) + struct.pack(f"!H{len(forms)}H", len(forms), *forms) + struct.pack("!H", len(values))
     for it in values:
         body += struct.pack("!i", -1) if it is None else struct.pack("!I", len(it)) + it
@@ -140,7 +140,7 @@ def describe(kind: bytes = b"P", name: str = "") -> bytes:
 
 
 def execute(portal: str = "", most: int = 0) -> bytes:
-    """An Execute message, of at most so many rows; 0 is all."""
+    """An Execute message, of at most `most` rows; 0 is all."""
     return message(b"E", text(portal) + struct.pack("!I", most))
 
 
@@ -227,7 +227,7 @@ class Client:
         return head[:1], self.take(struct.unpack("!I", head[1:])[0] - 4)
 
     def begin(self) -> None:
-        """Reads up to the first ReadyForQuery, and answers what is asked of a password."""
+        """Reads up to the first ReadyForQuery, and answers the request for a password."""
         while True:
             kind, body = self.read()
             if kind == b"E":
@@ -256,7 +256,7 @@ class Client:
             if body[4:].decode() != self.signature:
                 raise ValueError("the server's signature is wrong: it does not know the password")
         elif wanted != 0:
-            raise ValueError(f"authentication {wanted} was asked")
+            raise ValueError(f"authentication {wanted} was requested")
 
     def proof(self, first: str) -> str:
         """The client's last message of SCRAM."""
@@ -308,7 +308,7 @@ class Client:
         return self.answer()
 
     def cancel(self) -> None:
-        """Asks, over a connection of its own, that the statement at work be cancelled; returns once the server has closed it."""
+        """Requests, over a connection of its own, that the statement at work be cancelled; returns once the server has closed it."""
         with socket.create_connection(("127.0.0.1", self.port), SECONDS) as it:
             it.sendall(struct.pack("!IIII", 16, CANCEL_REQUEST, *self.key))
             it.recv(1)

@@ -24,7 +24,7 @@ class Advice(NamedTuple):
 def advice(code: str, text: str, tables: Optional[Mapping[str, Any]] = None, folder_of: Optional[Folder] = None) -> Optional[Advice]:
     """What helps with a statement that the program refused by this code, its text being as the program got it; None where nothing is
     seen. `tables` are the foreign tables that are known, by name: each has `columns` with `name` and `type`, and `options`. `folder_of`
-    gives the kind and the path of a table's source."""
+    returns the kind and the path of a table's source."""
     return advice_on(code, raw(placed(text)), len(text), tables, folder_of) if code in CODES else None
 
 

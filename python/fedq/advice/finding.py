@@ -109,7 +109,7 @@ def lacking(found: Sequence[Placed], failure: Failure) -> Optional[Found]:
     return first_of(RULES, found, failure)
 
 
-# The rules, in the order in which they are asked. Each sees a form, or gives None.
+# The rules, in the order in which they are tried. Each returns a form that it sees, or None.
 
 
 def of_kind(place: Place) -> Optional[Found]:

@@ -43,7 +43,7 @@ class Part(NamedTuple):
 
 
 class Check(NamedTuple):
-    """What an operator, a function or a place asks of the types of its parts. `what` is compare, arithmetic, like, condition or call, `at`
+    """What an operator, a function or a place requires of the types of its parts. `what` is compare, arithmetic, like, condition or call, `at`
     the operator's or the function's place."""
     what: str
     at: int

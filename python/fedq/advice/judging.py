@@ -13,7 +13,7 @@ TYPES = {"smallint": "integer", "integer": "integer", "int": "integer", "bigint"
          "bool": "boolean"}
 SHOWN = {"integer": "a whole number", "text": "a text", "boolean": "a truth value"}
 TRUE, FALSE = ("1", "t", "true", "yes", "y", "on"), ("0", "f", "false", "no", "n", "off")
-ORDERS = ", which goes by characters, so '10' is before '9'; fedq-setup --copy makes whole numbers of decimals"
+ORDERS = ", which goes by characters, so '10' is before '9'; fedq-setup --copy makes whole numbers of decimals and of numbers with a unit"
 MOST_SHOWN = 40  # characters of an expression
 # By the name of a function that is not here.
 FUNCTIONS: Dict[str, str] = {
@@ -134,7 +134,7 @@ class Judge:
         kind = self.type_of(check.parts[0]) if check.parts else ""
         if name == "sum" and kind in ("text", "boolean"):
             what = "a sum takes whole numbers: declare the column as integer where its cells are such; " \
-                "fedq-setup --copy makes them of decimals" if kind == "text" else \
+                "fedq-setup --copy makes them of decimals and of numbers with a unit" if kind == "text" else \
                 f"count the rows: SELECT count(*) .. WHERE {self.shown(check.parts[0])}"
             return Finding(f"{self.shown(check.parts[0])} is {SHOWN[kind]}", what, check.at, end)
         if name in ("min", "max") and kind == "boolean":

@@ -37,7 +37,7 @@ def limit(grammar: Grammar) -> Optional[Finding]:
     if len(grammar.declared) > MOST_COLUMNS:
         at = grammar.declared[MOST_COLUMNS]
         return Finding(f"the table has {len(grammar.declared)} columns; {over('columns')}",
-                       "declare those that are asked for, where the file allows it", at, at + 1)
+                       "declare those that are needed, where the file allows it", at, at + 1)
     return by_verb(grammar)
 
 

@@ -10,7 +10,7 @@ BEFORE, AFTER = 40, 36  # characters of a statement that are shown before and af
 
 
 def shown(found: Advice, text: str, width_of: Callable[[str], int] = len) -> List[str]:
-    """The part of the statement that advice is about, a caret under it, and what the advice says. `width_of` gives the columns of a
+    """The part of the statement that advice is about, a caret under it, and what the advice says. `width_of` returns the columns of a
     text."""
     line_begin = text.rfind("\n", 0, found.begin) + 1
     line_end = text.find("\n", found.begin)

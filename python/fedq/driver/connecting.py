@@ -14,7 +14,6 @@ from .parameters import STYLES
 Path = Union[str, "os.PathLike[str]"]
 Sources = Optional[Dict[str, Path]]
 OWNER = "admin"
-NOTICE = "note: "
 
 
 def connect(csv: Sources = None, jsonl: Sources = None, sqlite: Sources = None, lists: Union[str, Sequence[str]] = (), *,
@@ -32,7 +31,7 @@ def connect(csv: Sources = None, jsonl: Sources = None, sqlite: Sources = None, 
     - `timeout`: the seconds to wait for the port's first answer; no limit by default.
     - `paramstyle`: qmark (`?`, and `:name` for a mapping) or pyformat (`%s`, and `%(name)s` for a mapping).
 
-    Fails with InterfaceError for wrong words and a missing program, and with DatabaseError where the engine refuses."""
+    Fails with InterfaceError for wrong arguments and a missing program, and with DatabaseError where the engine refuses."""
     if paramstyle not in STYLES:
         raise InterfaceError(f"paramstyle is {' or '.join(STYLES)}, and not {paramstyle}")
     sources = {"csv": csv or {}, "jsonl": jsonl or {}, "sqlite": sqlite or {}}
@@ -57,7 +56,7 @@ def connect(csv: Sources = None, jsonl: Sources = None, sqlite: Sources = None, 
 
 
 def words_of(sources: Dict[str, Dict[str, Path]]) -> List[str]:
-    """The program's words for sources."""
+    """The program's arguments for sources."""
     return [it for kind, named in sources.items() for name, path in named.items() for it in (f"--{kind}", f"{name}={os.fspath(path)}")]
 
 
@@ -70,6 +69,7 @@ def looked_at(sources: Dict[str, Dict[str, Path]], write: bool) -> List[str]:
                 raise InterfaceError(f"{os.fspath(path)} of {kind}={{'{name}': ..}} is a file: give the folder that it is in")
             if not os.path.isdir(path):
                 raise InterfaceError(f"the folder {os.fspath(path)} of {kind}={{'{name}': ..}} is not there")
+    from ..setup.advice import NOTICE, WARNING
     from ..setup.set_up import set_up, sources_of
     try:
         named = sources_of({kind: [f"{name}={os.fspath(path)}" for name, path in its.items()] for kind, its in sources.items()})
@@ -80,5 +80,6 @@ def looked_at(sources: Dict[str, Dict[str, Path]], write: bool) -> List[str]:
         raise ProgrammingError(f"{fault.filename}: {fault.strerror}") from None
     for it in made.warnings:
         if not it.startswith(NOTICE):
-            warnings.warn(printable(it), Warning, stacklevel=4)
+            said = it[len(WARNING):] if it.startswith(WARNING) else it  # (Python's `warnings` says itself that it is one)
+            warnings.warn(printable(said), Warning, stacklevel=4)
     return made.script

@@ -23,7 +23,7 @@ MOST_TOGETHER = 200  # requests that are sent before their replies are read
 
 class Connection:
     """A session. Each statement is done at once, whole or not at all: there is nothing to commit, and what was written cannot be rolled
-    back. Threads may share it: one statement is asked at a time."""
+    back. Threads may share it: one statement is sent at a time."""
     Warning, Error, InterfaceError, DatabaseError = errors.Warning, errors.Error, errors.InterfaceError, errors.DatabaseError
     DataError, OperationalError, IntegrityError = errors.DataError, errors.OperationalError, errors.IntegrityError
     InternalError, ProgrammingError, NotSupportedError = errors.InternalError, errors.ProgrammingError, errors.NotSupportedError
@@ -89,7 +89,7 @@ class Connection:
                     raise
 
     def types_of(self, query: Statement, literals: List[str], count: int) -> List[str]:
-        """The types of a query's outputs. The engine is asked, and runs none of what is asked. It is asked once for each kind of query,
+        """The types of a query's outputs. The engine is asked for them, and runs no query for that. It is asked once for each kind of query,
         and each time where others may change the tables; so a cursor of the query has to be open then."""
         key = query.key(literals)
         known = None if self.is_shared else self.types.get(key)
@@ -101,14 +101,14 @@ class Connection:
         return known
 
     def asked_types(self, query: Statement, literals: List[str], count: int) -> List[str]:
-        """The types of a query's outputs, as the engine tells them now. A column of NULLs alone is of texts."""
+        """The types of a query's outputs, as the engine reports them now. A column of NULLs alone is of texts."""
         found = query.tokens(literals)
         requests = [f"Q {asked_type(found, count, at, it)}" for at in range(count) for it in ("1", "'x'")]
         codes = []
         for at in range(0, len(requests), MOST_TOGETHER):
             for reply in self.ask(*requests[at:at + MOST_TOGETHER]):
                 if reply.code not in ("54000", "42804"):
-                    raise error_of(reply.code or "XX000", reply.name or f"the engine answered {reply.tag} where it was asked for types")
+                    raise error_of(reply.code or "XX000", reply.name or f"the engine answered {reply.tag} to a query for types")
                 codes.append(reply.code)
         pairs = zip(codes[::2], codes[1::2])
         return ["text" if text == "54000" else "integer" if number == "54000" else "boolean" for number, text in pairs]
@@ -164,7 +164,7 @@ class Connection:
 
 
 def opened(connection: Connection, user: str, owner: Optional[str] = None, statements: Sequence[str] = ()) -> Connection:
-    """The connection, with its session opened for the user behind these statements of the owner. It is closed where one is refused."""
+    """The connection, with its session opened for the user after these statements of the owner. It is closed where one is refused."""
     try:
         if statements:
             connection.must(f"OPEN {owner}", f"OPEN {owner}")

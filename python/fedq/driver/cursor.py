@@ -21,7 +21,7 @@ COUNTED = ("SELECT", "FETCH", "INSERT", "UPDATE", "DELETE")
 
 
 class Cursor:
-    """Executes statements, and gives out rows as tuples.
+    """Executes statements, and returns rows as tuples.
 
     A query is read as it is fetched, `itersize` rows at a time: neither side holds a large answer whole, but for one with ORDER BY,
     groups, DISTINCT or UNION ALL, which the engine holds, and one that can fault (arithmetic and `sum`), which is sent whole. While rows
@@ -48,7 +48,7 @@ class Cursor:
     # ----------------------------------------------------------------------------------------------------------------------- statements
 
     def execute(self, sql: str, parameters: Any = None) -> "Cursor":
-        """Executes one statement, with a sequence or a mapping of parameters for its places, and gives itself."""
+        """Executes one statement, with a sequence or a mapping of parameters for its places, and returns itself."""
         statement = statement_of(sql, parameters, self.connection.paramstyle)
         with self.connection.lock:
             self.check()
@@ -122,7 +122,7 @@ class Cursor:
             self.connection.types.clear()
 
     def described(self, reply: Reply, query: Statement, literals: List[str], text: str) -> None:
-        """Takes the names of a query's reply, and asks for the types."""
+        """Takes the names of a query's reply, and finds the types."""
         if reply.code:
             self.declared = None
             raise error_of(reply.code, reply.name, text)
@@ -131,7 +131,7 @@ class Cursor:
         self.description = [(unescaped(name), kind, None, None, None, None, None) for name, kind in zip(names, self.types)]
 
     def executemany(self, sql: str, many: Iterable[Any]) -> "Cursor":
-        """Executes a statement for each of these parameters, and gives itself. An INSERT of one row of VALUES is one statement with all
+        """Executes a statement for each of these parameters, and returns itself. An INSERT of one row of VALUES is one statement with all
         rows, so that they are written whole or not at all; more than 1,048,576 bytes of them are several statements, and each is
         whole. `rowcount` is the sum, also where one is refused."""
         given = list(many)
@@ -215,7 +215,7 @@ class Cursor:
         return f"Q FETCH {self.asked} FROM {self.declared}"
 
     def fetch(self) -> Iterator[Row]:
-        """Asks for the next rows. A FETCH that is refused has ended its cursor."""
+        """Fetches the next rows. A FETCH that is refused has ended its cursor."""
         reply = self.connection.ask(self.request())[0]
         if reply.code:
             self.declared = None
@@ -272,7 +272,7 @@ class Cursor:
 
 
 def count_of(reply: Reply) -> int:
-    """The number of rows that a tag tells, or -1."""
+    """The number of rows in a tag, or -1."""
     verb, _, last = reply.tag.partition(" ")
     return int(last.rpartition(" ")[2]) if verb in COUNTED else -1
 

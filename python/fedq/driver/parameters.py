@@ -76,7 +76,7 @@ class Statement:
 
 
 def chunks_of(parts: Sequence[Union[Token, Slot]]) -> List[str]:
-    """The texts before, between and behind the places."""
+    """The texts before, between and after the places."""
     chunks: List[List[Token]] = [[]]
     for it in parts:
         if isinstance(it, Token):
@@ -99,7 +99,7 @@ def prepared(sql: str, style: str, is_named: bool, is_given: bool) -> Statement:
     try:
         found = statements(sql, is_format)
         if len(found) != 1:
-            raise ProgrammingError(f"42601 one statement is asked at a time, and the text has {len(found)}", "42601", "syntax_error")
+            raise ProgrammingError(f"42601 one statement is sent at a time, and the text has {len(found)}", "42601", "syntax_error")
         return Statement(formatted(found[0], is_named) if is_format else marked(found[0], is_named))
     except Unsayable as fault:
         raise error_of(*fault.args) from None

@@ -10,7 +10,7 @@ from .statements import Statement, bare, own_forms
 
 def advised(statement: Statement, code: str, database: str, objects: Objects, command: Sequence[str]) -> Optional[Advice]:
     """What helps with a statement that was refused by this code; None where nothing is seen, or its text is long or was not kept.
-    `command` has the words by which the program was started."""
+    `command` has the arguments with which the program was started."""
     if code not in CODES or statement.source is None or len(statement.source[0]) > MOST_KEPT_CHARACTERS:
         return None
     text, number = statement.source

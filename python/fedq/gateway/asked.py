@@ -1,9 +1,9 @@
-"""Whether a statement asks the catalogue, or something of the session, and not the program."""
+"""Whether a statement queries the catalogue or the session, and not the program."""
 from typing import Container, Sequence
 
 from ..sql import Token
 
-# Functions that a client asks without naming a table.
+# Functions that a client calls without naming a table.
 FUNCTIONS = frozenset("version current_database current_schema current_schemas current_user session_user current_catalog pg_backend_pid "
                       "current_setting set_config now "
                       "pg_is_in_recovery txid_current inet_server_addr inet_server_port pg_advisory_unlock_all to_regclass "
@@ -11,7 +11,7 @@ FUNCTIONS = frozenset("version current_database current_schema current_schemas c
 
 
 def is_of_catalogue(found: Sequence[Token], tables: Container[str] = ()) -> bool:
-    """Whether a name of pg_catalog or information_schema, or a function of the session, stands in a query. A foreign table of such a name
+    """Whether a name of pg_catalog or information_schema, or a function of the session, is in a query. A foreign table of such a name
     goes first."""
     for it in found:
         if it.kind in ("word", "quoted") and it.value not in tables and (

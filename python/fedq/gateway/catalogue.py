@@ -1,5 +1,5 @@
-"""What clients ask of pg_catalog and information_schema, answered by a SQLite database in memory that is made of the program's objects.
-Nothing is claimed of these answers but that they serve the clients of docs/CLIENTS.md. Who asks may read these tables and nothing else,
+"""Queries of pg_catalog and information_schema, answered by a SQLite database in memory that is made of the program's objects.
+Nothing is claimed of these answers but that they serve the clients of docs/CLIENTS.md. A client may read these tables and nothing else,
 in bounds of time and memory."""
 import re, sqlite3, time
 from concurrent.futures import Future, ThreadPoolExecutor
@@ -17,17 +17,17 @@ SECONDS, MOST_ROWS, MOST_BYTES, HEAP_BYTES = 2.0, 100_000, 1 << 25, 1 << 27
 STEPS = 10_000
 MOST_CHARACTERS, MOST_DEPTH = 1 << 16, 200
 READS = (sqlite3.SQLITE_SELECT, sqlite3.SQLITE_READ, sqlite3.SQLITE_RECURSIVE)
-# Tables that are always empty: a query of one that SQLite cannot read has no rows. (Such ask for keys, indexes, constraints, triggers.)
+# Tables that are always empty: a query of one that SQLite cannot read has no rows. (Such queries look for keys, indexes, constraints, triggers.)
 EMPTY = frozenset("pg_index pg_constraint pg_trigger pg_policy pg_publication pg_rewrite pg_inherits pg_sequence pg_enum pg_range "
                   "pg_depend pg_event_trigger "
                   "pg_statistic_ext".split())
-# Texts of drivers, as they are behind `translated`.
+# Texts of drivers, as they are after `translated`.
 KNOWN = (('( select s . r , ( current_schemas ( false ) ) as "nspname" from ( SELECT 0 AS value WHERE 0 ) as "s" ( r ) )',
           "( SELECT 1 AS r, 'public' AS nspname )"), )
 
 
 class Asker(NamedTuple):
-    """The session that asks."""
+    """The session of the query."""
     user: str
     database: str
     pid: int
@@ -74,13 +74,13 @@ class Catalogue:
         except (sqlite3.Error, sqlite3.Warning, MemoryError, ValueError, OverflowError) as fault:
             if "interrupted" in str(fault):
                 raise Refused("57014", f"the question to the catalogue took longer than {SECONDS:.0f} seconds",
-                              "restrict it by WHERE, or ask of fewer tables")
+                              "restrict it by WHERE, or query fewer tables")
             if self.is_own_table:
-                raise Refused("42P01", "the tables of SQLite itself are not in the catalogue", "ask pg_class for the tables")
+                raise Refused("42P01", "the tables of SQLite itself are not in the catalogue", "query pg_class for the tables")
             names = names_of(found, {}) or []
             if not names or not any(it.value in EMPTY for it in found):
                 raise Refused("0A000", f"the gateway's catalogue cannot answer this: {str(fault)[:200]}",
-                              "ask pg_catalog and information_schema more simply: it is no PostgreSQL, but a copy of its tables' names")
+                              "query pg_catalog and information_schema more simply: it is no PostgreSQL, but a copy of its tables' names")
             rows = []
         oids = [kind_of([row[at] for row in rows]) for at in range(len(names))]
         return Answer(names, oids, [[text_of(it) for it in row] for row in rows], f"SELECT {len(rows)}")
@@ -95,7 +95,7 @@ class Catalogue:
         make_functions(self.db, self)
         self.tables = {it.name: it for it in known if it.kind == "table"}
         fill(self.db, known, self.owner)
-        self.db.execute("SELECT * FROM json_each('[]')")  # (else it would be made by who asks, who may make nothing)
+        self.db.execute("SELECT * FROM json_each('[]')")  # (else the session of the query would make it, which may make nothing)
         self.db.set_authorizer(self.may)
         self.db.set_progress_handler(lambda: time.monotonic() > self.until, STEPS)
 
@@ -144,9 +144,9 @@ class Catalogue:
 def judge_size(found: Sequence[Token]) -> None:
     """Fails with Refused where a query is too long, or nested too deeply, to be translated and judged in little time."""
     if len(found) > MOST_CHARACTERS or sum(len(it.raw) + 1 for it in found) > MOST_CHARACTERS:
-        raise Refused("54000", f"a question to the catalogue has at most {MOST_CHARACTERS:,} characters", "ask in parts")
+        raise Refused("54000", f"a question to the catalogue has at most {MOST_CHARACTERS:,} characters", "query in parts")
     if max((depth for _, depth in with_depth(found)), default=0) > MOST_DEPTH:
-        raise Refused("54001", f"a question to the catalogue is nested at most {MOST_DEPTH} levels deep", "ask more simply")
+        raise Refused("54001", f"a question to the catalogue is nested at most {MOST_DEPTH} levels deep", "query more simply")
 
 
 def kind_of(values: Sequence[Any]) -> int:

@@ -38,7 +38,7 @@ class TooMuch(Exception):
 
 
 def make_functions(db: sqlite3.Connection, catalogue: Any) -> None:
-    """Makes all of them. `catalogue.asker` is the session that asks, `catalogue.tables` the tables by name."""
+    """Makes all of them. `catalogue.asker` is the session of the query, `catalogue.tables` the tables by name."""
 
     def make(names: str, count: int, function: Callable) -> None:
         for name in names.split():

@@ -81,7 +81,7 @@ class Connection(asyncio.Protocol):
         self.outlet.resume()
 
     def eof_received(self) -> bool:
-        """A client that sends no more has gone: its session ends at once, whatever it has asked."""
+        """A client that sends no more has gone: its session ends at once, whatever it has requested."""
         self.hub.loop.call_soon(self.transport.abort)
         return False
 
@@ -101,7 +101,7 @@ class Connection(asyncio.Protocol):
             self.message.done()
 
     def cut_start(self, data: bytes) -> int:
-        """The first messages have no kind. Behind the start come those with kinds."""
+        """The first messages have no kind. After the start come those with kinds."""
         at = 0
         while not self.is_started and len(data) - at >= 8 and not (self.inbox and self.inbox[-1][0] == SSL_REQUEST):
             length, code = int.from_bytes(data[at:at + 4], "big"), int.from_bytes(data[at + 4:at + 8], "big")
@@ -129,7 +129,7 @@ class Connection(asyncio.Protocol):
             self.transport.abort()
 
     def leave(self) -> None:
-        """Sends what there is and closes. Who does not read it is cut off."""
+        """Sends what there is and closes. A client that does not read it is cut off."""
         self.outlet.flush()
         self.hub.loop.call_soon(self.close)  # (not within what the transport has called: TLS would not bear it)
         self.hub.loop.call_later(LEAVE_SECONDS, self.transport.abort)
@@ -171,7 +171,7 @@ class Connection(asyncio.Protocol):
         self.leave()
 
     async def take(self, kind: int, body: bytes) -> None:
-        """Does what one message asks. Behind a fault all messages up to Sync are left out."""
+        """Does what one message requests. After a fault all messages up to Sync are left out."""
         session = self.session
         if kind == 83:  # S
             self.is_failed = False
@@ -195,7 +195,7 @@ class Connection(asyncio.Protocol):
                 session.refuse(fault)
                 self.is_failed = True
         elif kind == 70:  # F
-            session.refuse(Refused("0A000", "function calls are not supported", "ask by SELECT"))
+            session.refuse(Refused("0A000", "function calls are not supported", "query by SELECT"))
             self.outlet.add(READY[session.transaction.status])
         elif kind not in IGNORED:
             raise Refused("08P01", f"invalid frontend message type {kind}", "speak PostgreSQL's protocol 3.0 to this port")
@@ -204,7 +204,7 @@ class Connection(asyncio.Protocol):
             await self.outlet.drained()
 
     async def finish(self, request: Request, output: Output, count: int) -> None:
-        """Waits for the reply to a prepared query that was asked in one pass, and takes its messages up to Sync."""
+        """Waits for the reply to a prepared query that was sent in one pass, and takes its messages up to Sync."""
         session, outlet = self.session, self.outlet
         for _ in range(count):
             self.inbox.popleft()
@@ -255,7 +255,7 @@ class Connection(asyncio.Protocol):
             elif code == GSS_REQUEST:
                 self.transport.write(b"N")
             elif code == CANCEL_REQUEST:
-                self.end = "asked to cancel"
+                self.end = "requested to cancel"
                 pid, secret = Body(body).numbers("I", 2)
                 self.hub.cancel(pid, secret)
                 self.leave()
@@ -309,7 +309,7 @@ class Connection(asyncio.Protocol):
     async def authenticate(self, user: str) -> None:
         """SCRAM-SHA-256, where the gateway has users. Fails with Refused (28P01), as late and in the same words whatever is wrong."""
         if self.hub.tls is not None and not self.is_secure and not self.is_local:
-            raise Refused("28000", "this gateway asks for TLS", "connect with sslmode=require")
+            raise Refused("28000", "this gateway requires TLS", "connect with sslmode=require")
         if self.hub.users is None or self.is_trusted:
             return
         try:
@@ -339,7 +339,7 @@ class Connection(asyncio.Protocol):
 
     @staticmethod
     def first_of(body: bytes) -> str:
-        """The client's first message, behind the mechanism's name and its length."""
+        """The client's first message, after the mechanism's name and its length."""
         reader = Body(body)
         if reader.text() != "SCRAM-SHA-256":
             raise Wrong()

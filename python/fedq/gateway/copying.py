@@ -25,7 +25,7 @@ class Copy(NamedTuple):
 
 
 def read(found: Sequence[Token], database: str) -> Copy:
-    """What a COPY asks. Fails with Refused where it is none of those that there are."""
+    """What a COPY requests. Fails with Refused where it is none of those that there are."""
     at = next(iter(sql.places(found, {"to", "from"})), None)
     if at is None or at + 1 >= len(found) or at < 2 or (found[at].value, found[at + 1].value) != ("to", "stdout"):
         raise Refused("0A000", "this COPY is not supported", USAGE + "; rows are written by INSERT")
@@ -43,7 +43,7 @@ def read(found: Sequence[Token], database: str) -> Copy:
 
 
 def options(found: Sequence[Token]) -> Tuple[bool, bool]:
-    """Whether the form is csv, and whether there is a header. Fails with Refused where another option is asked, unless it says what is so
+    """Whether the form is csv, and whether there is a header. Fails with Refused where another option is requested, unless it says what is so
     anyway."""
     words = [it.value for it in found if it.raw not in ("(", ")", ",", "=")]
     is_csv = "csv" in words

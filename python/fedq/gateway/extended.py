@@ -155,7 +155,7 @@ class Extended(Session):
                 self.quicks[b"\0" + found.statement.encode() + b"\0"] = quick
 
     def is_quick(self, quick: Quick) -> bool:
-        """Whether what was learned of a prepared query holds still, and the session can ask it at once."""
+        """Whether what was learned of a prepared query holds still, and the session can send it at once."""
         hub = self.hub
         return (quick.version == hub.objects.version and hub.is_ready and self.starts == self.engine.starts and not self.timeout
                 and self.transaction.status != FAILED)
@@ -203,7 +203,7 @@ class Extended(Session):
             raise Refused("34000", f'portal "{name}" does not exist', "bind it first")
 
     async def described(self, portal: Portal) -> Optional[bytes]:
-        """The RowDescription of a portal; None where it gives no rows. A query of the catalogue is run for it."""
+        """The RowDescription of a portal; None where it returns no rows. A query of the catalogue is run for it."""
         statement = portal.statement
         if statement is None:
             return None

@@ -53,7 +53,7 @@ class Hub:
                   f"{seconds:.3f} s", file=sys.stderr, flush=True)
 
     def cancel(self, pid: int, secret: int) -> None:
-        """Cancels what a client's session asks, where the secret is its own."""
+        """Cancels the request of a client's session, where the secret is its own."""
         found = self.connections.get(pid)
         if found and found.is_secret(secret) and found.session:
             found.session.cancel()
@@ -133,5 +133,5 @@ class Hub:
 
     def give_up(self, wait: Wait) -> None:
         self.waits.discard(wait)
-        wait.done(None, Refused("57P03", "the program is being started again", "ask again in a moment; the gateway's standard error "
+        wait.done(None, Refused("57P03", "the program is being started again", "try again in a moment; the gateway's standard error "
                                 "says why it ended"))

@@ -52,7 +52,7 @@ def new_user(path: str, name: str) -> int:
 
 
 def objects_of(words: argparse.Namespace) -> Objects:
-    """The objects that the words make."""
+    """The objects that the arguments make."""
     objects = Objects()
     for it in words.list:
         objects.note_all(DEMO.format(it))
@@ -105,7 +105,7 @@ async def serve(words: argparse.Namespace) -> int:
 async def listen(hub: Hub, words: argparse.Namespace, servers: List[asyncio.AbstractServer]) -> None:
     """Begins to listen, and says where."""
     if (words.csv or words.jsonl or words.sqlite) and not words.init:
-        say("no --init: folders and databases have no tables yet. `fedq-setup` with the same words and --out FILE writes an init file")
+        say("no --init: folders and databases have no tables yet. `fedq-setup` with the same arguments and --out FILE writes an init file")
     if words.host:
         if words.users is None:
             say("without --users whoever reaches the port, so any user of this machine, is whoever he says: keep it from others, or use "
@@ -122,7 +122,7 @@ async def listen(hub: Hub, words: argparse.Namespace, servers: List[asyncio.Abst
         print(f"fedq-gateway: listening on {path}", flush=True)
     if words.lines_port is not None:
         if words.users is not None:
-            say("the port of lines asks for no password: whoever reaches it, so any user of this machine, is whoever he says")
+            say("the port of lines takes no password: whoever reaches it, so any user of this machine, is whoever he says")
         await listen_on(hub, lambda: Lines(hub), "127.0.0.1", words.lines_port, servers, " (lines)")
 
 

@@ -171,7 +171,7 @@ def read_bind(body: bytes) -> Bind:
 
 
 def read_formats(body: bytes, at: int) -> Tuple[Tuple[int, ...], int]:
-    """Some formats, and the place behind them."""
+    """Some formats, and the place after them."""
     count = body[at] << 8 | body[at + 1]
     if not count:
         return (), at + 2

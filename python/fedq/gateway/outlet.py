@@ -40,7 +40,7 @@ class Outlet:
         self.parts.append(data)
 
     def stream(self, rows: bytes) -> bool:
-        """Adds rows, and hands on what there is where it is much. Returns False where the bound of the file is reached: then the rows are
+        """Adds rows, and passes on what there is where it is much. Returns False where the bound of the file is reached: then the rows are
         left out."""
         if self.is_behind and not self.pool.has(len(rows)):
             return False
@@ -51,7 +51,7 @@ class Outlet:
         return True
 
     def flush(self) -> None:
-        """Hands on what was added."""
+        """Passes on what was added."""
         if not self.parts:
             return
         data = self.parts[0] if len(self.parts) == 1 else b"".join(self.parts)
@@ -64,7 +64,7 @@ class Outlet:
             self.keep(data)
 
     def keep(self, data: bytes) -> None:
-        """Puts bytes behind those in the file."""
+        """Appends bytes to the file."""
         if self.spool is None:
             self.spool, self.written, self.read = tempfile.TemporaryFile(buffering=0), 0, 0
         self.spool.seek(self.written)

@@ -73,7 +73,7 @@ class Output:
         self.outlet.add(complete(tag))
 
     def answer(self, answer: Answer) -> None:
-        """Gives an answer that the gateway made itself."""
+        """Sends an answer that the gateway made itself."""
         formats = all_formats(self.asked, len(answer.names))
         if not self.is_described:
             self.outlet.add(row_description(answer.names, answer.oids, formats))
@@ -122,7 +122,7 @@ class Held(Output):
         self.ready = messages_of(answer, all_formats(self.asked, self.width))
 
     def described(self) -> Optional[bytes]:
-        """The RowDescription; None where the statement gives no rows."""
+        """The RowDescription; None where the statement returns no rows."""
         if self.made is not None:
             return row_description(self.made.names, self.made.oids, all_formats(self.asked, self.width))
         return None if self.header is None else description(self.header, self.oids, self.formats)

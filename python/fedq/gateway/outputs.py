@@ -1,4 +1,4 @@
-"""The names and types of a query's outputs before it runs: the names by the rule of docs/LANGUAGE.md, the types by asking the program."""
+"""The names and types of a query's outputs before it runs: the names by the rule of docs/LANGUAGE.md, the types by a request to the program."""
 from typing import List, Mapping, Optional, Sequence, Tuple
 
 from ..sql import ENDS_ITEMS, RESERVED, Token, asked_type, items, with_depth
@@ -30,7 +30,7 @@ def entries(found: Sequence[Token]) -> List[Tuple[str, str]]:
 
 
 def alias(behind: Sequence[Token]) -> str:
-    """The alias behind a table's name; empty where there is none."""
+    """The alias after a table's name; empty where there is none."""
     if len(behind) > 1 and (behind[0].kind, behind[0].value) == ("word", "as"):
         return behind[1].value
     is_alias = bool(behind) and (behind[0].kind == "quoted" or behind[0].kind == "word" and behind[0].value not in NO_ALIAS)
@@ -38,7 +38,7 @@ def alias(behind: Sequence[Token]) -> str:
 
 
 def is_value_end(token: Token) -> bool:
-    """Whether a value may end at this token, so that a name behind it is its label."""
+    """Whether a value may end at this token, so that a name after it is its label."""
     if token.kind == "word":
         return token.value not in RESERVED - VALUES_AS_WORDS
     return token.kind in ("quoted", "number", "text") or token.raw == ")"

@@ -16,7 +16,7 @@ TRUTHS = {**dict.fromkeys(("t", "true", "1", "yes", "on", "y"), "TRUE"), **dict.
 TYPE_NAMES = {17: "bytea", 700: "real", 701: "double precision", 1082: "date", 1083: "time", 1114: "timestamp",
               1184: "timestamp with time zone", 2950: "uuid",
               114: "json", 3802: "jsonb", 1186: "interval"}
-# For each type a literal of it, which stands for a value while the program is asked about types.
+# For each type a literal of it, used in place of a value in a request for types.
 SAMPLES = {25: "'x'", 20: "1", 16: "TRUE"}
 
 
@@ -67,7 +67,7 @@ def truth(value: bytes, form: int) -> str:
 
 
 def places(found: Sequence[Token]) -> Dict[int, Tuple[str, int]]:
-    """The parameters whose types the grammar says, by their numbers from 0: those behind LIMIT, OFFSET and LIKE."""
+    """The parameters whose types the grammar says, by their numbers from 0: those after LIMIT, OFFSET and LIKE."""
     made = {}
     for before, it in zip(found, found[1:]):
         if it.kind == "parameter" and before.kind == "word" and before.value in ("limit", "offset", "like"):
@@ -88,7 +88,7 @@ def without_null_patterns(found: Sequence[Token], literals: Sequence[str]) -> Li
 
 
 def samples(oids: Sequence[int]) -> List[str]:
-    """Literals that stand for values: of the type where it is known, else NULL."""
+    """Literals in place of values: of the type where it is known, else NULL."""
     return [SAMPLES[25] if oid in TEXTS else SAMPLES[20] if oid in WHOLE_NUMBERS or oid == NUMERIC else SAMPLES.get(oid, "NULL")
             for oid in oids]
 

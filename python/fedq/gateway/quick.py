@@ -44,7 +44,7 @@ def plain(value: bytes, form: int, oid: int) -> Optional[bytes]:
 
 
 class Tail(NamedTuple):
-    """What the formats at the end of a Bind ask: a form for each column, and the messages that answer Bind and Describe."""
+    """What the formats at the end of a Bind request: a form for each column, and the messages that answer Bind and Describe."""
     formats: Tuple[int, ...]
     described: bytes
 
@@ -62,7 +62,7 @@ class Quick:
         self.tails: Dict[bytes, Tail] = {}
 
     def request_line(self, body: bytes, at: int) -> Tuple[bytes, int]:
-        """The request line with the values that begin at this place, and the place behind them; an empty line where a value is not
+        """The request line with the values that begin at this place, and the place after them; an empty line where a value is not
         plain."""
         literals: List[bytes] = []
         for form, oid in self.kinds:
@@ -76,7 +76,7 @@ class Quick:
         return self.line % tuple(literals if self.numbers is None else [literals[it] for it in self.numbers]), at
 
     def tail(self, tail: bytes) -> Optional[Tail]:
-        """What these formats ask; None where they are none."""
+        """What these formats request; None where they are none."""
         found = self.tails.get(tail)
         if found is None and len(self.tails) < MOST_TAILS:
             try:
@@ -103,7 +103,7 @@ def learned(prepared: "Prepared", statement: Optional[Statement], body: bytes,
 
 
 def started(session: "Extended", body: bytes, inbox: Deque[Tuple[int, bytes]]) -> Optional[Tuple[Request, Output, int]]:
-    """Asks the query of a Bind and of the messages behind it. Returns the request, its output, and how many messages were taken; None where
+    """Sends the query of a Bind and of the messages after it. Returns the request, its output, and how many messages were taken; None where
     it has to go the long way."""
     count = count_behind(inbox)
     at = body.find(b"\0", 1) + 1

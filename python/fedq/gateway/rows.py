@@ -62,7 +62,7 @@ class Tables(Generic[Piece]):
         self.lengths, self.heads, self.null, self.nothing = lengths, heads, null, nothing
 
 
-# Of short fields and rows, for each width: a list is faster than a dictionary. Texts of one character for each byte are faster still,
+# The heads of short fields and rows, by width: a list is faster than a dictionary. Texts of one character for each byte are faster still,
 # since Python joins texts in half the time in which it joins bytes.
 SHORT_LENGTHS = [LENGTHS[it] for it in range(SHORT)]
 SHORT_TEXTS = [it.decode("latin-1") for it in SHORT_LENGTHS]
@@ -106,11 +106,11 @@ def slices(piece: bytes) -> Iterator[bytes]:
 
 def data_rows(piece: bytes, prefix: bytes, width: int, formats: Sequence[int] = (), oids: Sequence[int] = ()) -> Tuple[bytes, int]:
     """The DataRow messages of some whole R lines that begin with `prefix`, and how many rows there are. `formats` has 1 for
-    each column that is asked in binary."""
+    each column that is requested in binary."""
     if len(piece) < 4096 and b"\\" not in piece and not formats and piece.count(b"\n") == 1:
         return one_row(piece[len(prefix):-1].split(b"\t")), 1
     if not formats and b"\\" not in piece:
-        # (what stands before each row becomes a column of its own, since one character is replaced by one much faster than several)
+        # (what comes before each row becomes a column of its own, since one character is replaced by one much faster than several)
         texts = piece[:-1].decode("latin-1").replace("\n", "\t").split("\t")
         try:
             return joined(texts, 1, (), width, text_tables(width), oids).encode("latin-1"), len(texts) // (width + 1)
@@ -129,7 +129,7 @@ def data_rows(piece: bytes, prefix: bytes, width: int, formats: Sequence[int] = 
 
 
 def joined(fields: List[Piece], left_out: int, nulls: Sequence[int], width: int, tables: Tables[Piece], oids: Sequence[int]) -> Piece:
-    """The DataRow messages of these fields, of which those at `nulls` are NULL, and the first of each row are left out; made column by
+    """The DataRow messages of these fields. Those at `nulls` are NULL, and the first of each row are left out; made column by
     column. `oids` may be empty. Lengths are not looked up where all of a column are the same, as those of numbers often are, and are not
     counted where they are known, as those of booleans."""
     step, of_row = 2 * width + 1, width + left_out
@@ -214,7 +214,7 @@ def copy_lines(lines: List[bytes]) -> bytes:
     parts = [b""] * (2 * len(lines))
     parts[0::2] = list(map(COPY_HEADS.__getitem__, map(len, lines)))
     parts[1::2] = lines
-    # (the LF of a line stands before the next message's head)
+    # (the LF of a line comes before the next message's head)
     parts[2::2] = [b"\n" + it for it in parts[2::2]]
     return b"".join(parts) + b"\n" if lines else b""
 

@@ -4,7 +4,7 @@ from typing import Dict, Optional, Tuple
 from ..advice import Advice
 from .messages import Refused
 
-NO_ANSWER = "whether the statement was done is not known: look before you ask again"
+NO_ANSWER = "whether the statement was done is not known: look before you send it again"
 SENTENCES: Dict[str, Tuple[str, str]] = {
     "08P01": ("the program could not read the request", "write the statement without line ends in names and texts"),
     "0A000": ("this form is not supported here", "docs/ERRORS.md says what to write instead"),
@@ -30,7 +30,7 @@ SENTENCES: Dict[str, Tuple[str, str]] = {
     "42712": ("two tables of FROM have one name", "give one an alias"),
     "42803": ("a column is no key of GROUP BY, or an aggregate is where none may be", "put the column into GROUP BY, or into min() or "
               "max()"),
-    "42804": ("a value has another type than is asked there", "nothing is converted: write a literal of the column's type"),
+    "42804": ("a value has another type than is required there", "nothing is converted: write a literal of the column's type"),
     "42883": ("there is no such function, or no such operator between these types", "nothing is converted; count, sum, min and max are "
               "all functions"),
     "42P01": ("a table does not exist", "\\dt lists the tables"),
@@ -41,15 +41,15 @@ SENTENCES: Dict[str, Tuple[str, str]] = {
     "54000": ("a limit is exceeded", "docs/ERRORS.md#limits has all limits"),
     "55000": ("the file cannot hold what is written", "docs/ERRORS.md#55000-object_not_in_prerequisite_state says why"),
     "55006": ("an open cursor reads the table, so it cannot be written or dropped now; or another foreign table has the remote table",
-              "CLOSE the cursor, or end its transaction or session, and ask again"),
+              "CLOSE the cursor, or end its transaction or session, and try again"),
     "57014": ("canceling statement due to user request", ""),
-    "57P01": ("the program ended while it was at work: " + NO_ANSWER, "it is started again: ask again"),
+    "57P01": ("the program ended while it was at work: " + NO_ANSWER, "it is started again: try again"),
     "HV000": ("a source failed", "look whether its files are there and not changed by somebody else"),
     "HV004": ("the columns are not those of the remote table", "docs/SOURCES.md says which columns a table has"),
     "HV00A": ("a file is not in its format", "`fedq-setup --check` says the line and why"),
     "HV00D": ("there is no such option here", "docs/SOURCES.md lists the options"),
     "HV00J": ("an option is missing", "docs/SOURCES.md lists the options"),
-    "HV00N": ("the source is not there, or a server has it already", "name a source of the words that the gateway was started with"),
+    "HV00N": ("the source is not there, or a server has it already", "name a source of the arguments that the gateway was started with"),
     "HV00R": ("there is no such file or table in the source", "look at its name: capital letters count"),
 }
 

@@ -26,7 +26,7 @@ AUTOCOMMIT = "turn autocommit on (psycopg2: connection.autocommit = True), or SE
 
 
 class Cursor(NamedTuple):
-    """A cursor of DECLARE: the names and types of its outputs where they are known, whether it lives on behind COMMIT, and whether its
+    """A cursor of DECLARE: the names and types of its outputs where they are known, whether it lives on after COMMIT, and whether its
     transaction has not ended."""
     names: Tuple[str, ...]
     types: Tuple[int, ...]
@@ -60,7 +60,7 @@ class Session:
                               "begin the transaction again")
 
     async def ask(self, text: bytes, take: Optional[Take] = None) -> Reply:
-        """Asks one statement. A statement that the program did not get before it ended is asked again of the next one."""
+        """Sends one statement. One that the program did not get before it ended is sent again to the next program."""
         while True:
             if not self.hub.is_ready or self.starts != self.engine.starts:
                 await self.ensure()
@@ -183,7 +183,7 @@ class Session:
             return "CLOSE CURSOR ALL"
         if verb in ("listen", "unlisten"):
             if verb == "listen":
-                raise Refused("0A000", "LISTEN is not supported: nothing is notified here", "ask again from time to time")
+                raise Refused("0A000", "LISTEN is not supported: nothing is notified here", "try again from time to time")
             return "UNLISTEN"
         return await self.transaction.run(statement)
 
@@ -227,12 +227,12 @@ class Session:
         return f"DISCARD {what.upper()}"
 
     def deallocate(self, found: Tuple[Token, ...]) -> None:
-        """Forgets prepared statements; the room of the extended protocol takes its place."""
+        """Forgets prepared statements; the extended protocol's object takes its place."""
 
     # Faults
 
     def refuse(self, fault: Exception) -> None:
-        """Tells the client what was refused; its transaction has failed then."""
+        """Reports a refusal to the client; its transaction has failed then."""
         self.outlet.add(error(refused_by(fault)))
         self.transaction.fail()
 
@@ -249,7 +249,7 @@ def refused_by(fault: Exception) -> Refused:
         text = f"the program ended while it was at work: {NO_ANSWER}"
         if not fault.was_sent:
             text = "the program ended before it got the statement: it was not done"
-        return Refused("57P01", text, "it is started again: ask again")
+        return Refused("57P01", text, "it is started again: try again")
     raise fault
 
 

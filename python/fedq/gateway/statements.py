@@ -1,4 +1,4 @@
-"""The statements of a client's text: where each goes, and the request line that asks it. What statements of one shape share is made
+"""The statements of a client's text: where each goes, and the request line for it. What statements of one shape share is made
 once."""
 import re
 from typing import Dict, FrozenSet, List, Optional, Sequence, Tuple

@@ -113,7 +113,7 @@ class Transaction:
         return "ROLLBACK"
 
     def cut_savepoints(self, name: str) -> None:
-        """Forgets the savepoints behind this one. Fails with Refused where there is none of this name."""
+        """Forgets the savepoints after this one. Fails with Refused where there is none of this name."""
         places = [at for at, it in enumerate(self.savepoints) if it == name]
         if not places:
             raise Refused("3B001", f'savepoint "{name}" does not exist', "SAVEPOINT makes one")
@@ -124,7 +124,7 @@ class Transaction:
             self.session.outlet.add(warning("01000", f"{self.written} writes of this transaction were done at once, and stay"))
 
     async def end(self, verb: str) -> str:
-        """COMMIT and ROLLBACK. Cursors of the transaction end; those WITH HOLD live on behind COMMIT."""
+        """COMMIT and ROLLBACK. Cursors of the transaction end; those WITH HOLD live on after COMMIT."""
         is_back = verb in ("rollback", "abort") or self.status == FAILED
         if self.status == IDLE:
             self.session.outlet.add(warning("25P01", "there is no transaction in progress"))

@@ -1,4 +1,4 @@
-"""Questions to the catalogue in PostgreSQL's words, as SQLite's: casts, regular expressions, arrays, names of tables as numbers. It works
+"""Questions to the catalogue in PostgreSQL's SQL, as SQLite's: casts, regular expressions, arrays, names of tables as numbers. It works
 on tokens, and leaves as it is what it does not know."""
 import json
 from typing import Callable, Dict, List, Optional, Sequence
@@ -34,7 +34,7 @@ def closing(found: Sequence[Token], at: int) -> int:
 
 
 class Translator:
-    """Goes over the tokens from left to right. Each rule returns the place behind what it took, or None where it does not apply."""
+    """Goes over the tokens from left to right. Each rule returns the place after what it took, or None where it does not apply."""
 
     def __init__(self, found: List[Token], depth: int) -> None:
         if depth > MOST_DEPTH:
@@ -42,7 +42,7 @@ class Translator:
         self.found, self.depth, self.result = found, depth, []
 
     def raw(self, at: int) -> str:
-        """The text of a token in small letters; empty behind the end."""
+        """The text of a token in small letters; empty after the end."""
         return self.found[at].raw.lower() if at < len(self.found) else ""
 
     def inner(self, start: int, end: int) -> List[Token]:
@@ -161,7 +161,7 @@ class Translator:
         """Takes a cast away; one of a name to a table's number, or back, becomes a function."""
         at += 1
         if at >= len(self.found):
-            raise Unsayable("42601", "a type is missing behind ::")
+            raise Unsayable("42601", "a type is missing after ::")
         name = self.found[at].value
         while self.raw(at + 1) == "." and at + 2 < len(self.found):
             at += 2
@@ -197,5 +197,5 @@ def elements(inner: List[Token]) -> List[Token]:
 
 
 def translated(found: List[Token], depth: int = 0) -> List[Token]:
-    """PostgreSQL's words as SQLite's."""
+    """PostgreSQL's SQL as SQLite's."""
     return Translator(found, depth).all()

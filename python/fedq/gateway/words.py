@@ -1,4 +1,4 @@
-"""The words with which the gateway is started."""
+"""The arguments with which the gateway is started."""
 import argparse, ipaddress, os, shutil, stat
 from typing import List, Optional, Sequence
 
@@ -8,7 +8,7 @@ USAGE = "fedq-gateway --port P [--host ADDRESS] [--socket DIR] [--users FILE]\n"
         "                    [--lines-port P [--lines-without-passwords]] [--spool-bytes N]\n" \
         "                    [--cert FILE --key FILE] [--verbose] [OPTION OF fedq run]..\n" \
         "       fedq-gateway --users FILE --add-user NAME"
-ABOUT = """Lets PostgreSQL's clients, up to 255 of them, ask one program: psql, psycopg2, SQLAlchemy, JDBC and others.
+ABOUT = """Lets PostgreSQL's clients, up to 255 of them, use one program: psql, psycopg2, SQLAlchemy, JDBC and others.
 Nothing of the gateway is proved; what the program answers is proved."""
 MORE = """The options of `fedq run` name the sources: --list NAME, --csv NAME=FOLDER, --jsonl NAME=FOLDER,
 --sqlite NAME=FILE, --init FILE, --owner NAME. `fedq-setup --csv NAME=FOLDER --out FILE` writes an init file.
@@ -22,7 +22,7 @@ Examples:
 
 
 class BadWords(Exception):
-    """The words are wrong, or name what cannot be used; the text says which."""
+    """The arguments are wrong, or name what cannot be used; the text says which."""
 
 
 def port(text: str) -> int:
@@ -41,7 +41,7 @@ def parser() -> argparse.ArgumentParser:
     made = argparse.ArgumentParser("fedq-gateway", usage=USAGE, description=ABOUT, epilog=MORE, allow_abbrev=False,
                                    formatter_class=argparse.RawDescriptionHelpFormatter)
     made.add_argument("--port", type=port, metavar="P", help="the port for PostgreSQL's clients")
-    made.add_argument("--host", metavar="ADDRESS", help="the address to listen on, by default 127.0.0.1; another asks for --users")
+    made.add_argument("--host", metavar="ADDRESS", help="the address to listen on, by default 127.0.0.1; another requires --users")
     made.add_argument("--socket", metavar="DIR", help="a folder of mode 0700 for a Unix socket: who may enter it needs no password")
     made.add_argument("--users", metavar="FILE", help="the users and their passwords' verifiers, a file of mode 0600: SCRAM-SHA-256 is "
                       "asked")
@@ -61,7 +61,7 @@ def parser() -> argparse.ArgumentParser:
 
 
 def read(given: Sequence[str]) -> argparse.Namespace:
-    """Reads the words. Fails with BadWords; ends with status 2 where one is none of those."""
+    """Reads the arguments. Fails with BadWords; ends with status 2 where one is none of those."""
     words = parser().parse_args(given)
     if words.add_user is not None:
         if not words.users:
@@ -72,10 +72,10 @@ def read(given: Sequence[str]) -> argparse.Namespace:
     if words.host is None and not words.socket or words.host is None and words.users:
         words.host = "127.0.0.1"
     if words.host and not words.users and not is_loopback(words.host):
-        raise BadWords(f"listening on {words.host} needs --users FILE: else who reaches the port is whoever he says. "
+        raise BadWords(f"listening on {words.host} needs --users FILE: else whoever reaches the port is any user that he names. "
                        "`fedq-gateway --users FILE --add-user NAME` makes the file; --host 127.0.0.1 needs none")
     if words.users and words.lines_port is not None and not words.lines_without_passwords:
-        raise BadWords("--lines-port asks for no password, and --users asks for one: whoever reaches the port of lines would need none. "
+        raise BadWords("--lines-port takes no password, and --users requires one: whoever reaches the port of lines would need none. "
                        "Leave one of them out, or add --lines-without-passwords where that is wanted")
     if bool(words.cert) != bool(words.key):
         raise BadWords("--cert and --key go together")
@@ -108,7 +108,7 @@ def judge_folder(path: str) -> None:
 
 
 def command(words: argparse.Namespace) -> List[str]:
-    """The program and its words. Fails with BadWords where there is none."""
+    """The program and its arguments. Fails with BadWords where there is none."""
     program: Optional[str] = os.environ.get("FEDQ_PROGRAM") or shutil.which("fedq")
     if not program:
         raise BadWords("fedq is not on the PATH, and FEDQ_PROGRAM does not name it")

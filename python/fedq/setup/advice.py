@@ -7,6 +7,7 @@ from ..sql import RESERVED
 from ..terminal import path_word, printable
 
 MOST_SAID = 20
+WARNING, NOTICE = "warning: ", "note: "  # that such lines begin with
 NUL = "\U000fffff"  # (older readers of Python's csv take no U+0000)
 
 
@@ -21,7 +22,7 @@ class Refused(Exception):
 class Report:
     """What is said of one file: faults, for which it cannot be bound, and warnings. `notes` are columns, each with its kind of
     `fedq.notes`; `notices` are what does no harm; `unbound` are members that no column reads, and
-    `taken_out` is the fault of the tables that `--copy` takes out; `by_copy` is whether `--copy` makes more of it; `source` are the words
+    `taken_out` is the fault of the tables that `--copy` takes out; `by_copy` is whether `--copy` makes more of it; `source` are the arguments
     that name its source; `open_quote` is the line of a quote that is never closed."""
 
     def __init__(self, name: str) -> None:
@@ -39,11 +40,11 @@ class Report:
 
     def warn(self, text: str, line: Optional[int] = None) -> None:
         """Adds what may surprise."""
-        self.warnings.append("warning: " + self.place(line) + text)
+        self.warnings.append(WARNING + self.place(line) + text)
 
     def notice(self, text: str) -> None:
         """Adds what is good to know, and gives no wrong answer."""
-        self.notices.append("note: " + self.name + text)
+        self.notices.append(NOTICE + self.name + text)
 
     def leave_out(self, text: str, line: Optional[int] = None, out: str = "") -> None:
         """Adds what is not bound, and the way out."""

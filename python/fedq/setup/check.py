@@ -164,7 +164,7 @@ def place_fault(folder: str, file: str) -> Optional[str]:
 
 
 def check(words: "argparse.Namespace", usage_fault: Callable[[str], int]) -> int:
-    """Prints why a foreign table cannot be bound; the exit status. `usage_fault` prints what is wrong with the words, and gives the
+    """Prints why a foreign table cannot be bound; the exit status. `usage_fault` prints what is wrong with the arguments, and returns the
     status of that."""
     kind, folder, words.file = words.check
     if kind not in CHECKS or words.columns is None:

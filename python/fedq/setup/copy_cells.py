@@ -1,10 +1,10 @@
-"""What a copy makes of the columns of a table: whole numbers of decimals, a month beside each date."""
+"""What a copy makes of the columns of a table: whole numbers of decimals and of numbers with a unit, a month beside each date."""
 import datetime, decimal, re
 from dataclasses import dataclass, field
 from typing import List, Optional, Set, Tuple
 
-from .advice import Report, own_name, shown
-from .csv_cells import DATE, DATES, NULLS, kind_of
+from .advice import Report, listed, own_name, plain_name, shown
+from .csv_cells import DATE, DATES, NULLS, SORT_OF_UNIT, kind_of, unit_of
 
 Values = List[Optional[str]]
 MOST_COLUMNS, MOST_DIGITS = 64, 12
@@ -63,12 +63,29 @@ def scaled(found: List[decimal.Decimal]) -> Optional[Tuple[int, List[int]]]:
     return (digits, whole) if all(-2 ** 63 <= it < 2 ** 63 for it in whole) else None
 
 
+def without_unit(column: Cells, texts: List[str], report: Report) -> Optional[Tuple[str, List[str]]]:
+    """The one unit of a column of numbers with a unit, and the texts of the numbers; None where there are several units, which is said
+    where they are of one sort."""
+    units = [*dict.fromkeys(map(unit_of, texts))]
+    if len(units) > 1:
+        if len({SORT_OF_UNIT[it] for it in units}) == 1:
+            report.warn(f" column {column.name}: the numbers have several units ({listed(units)}): it stays text")
+        return None
+    return units[0], [it.rstrip(" ")[:-len(units[0])].rstrip(" ") for it in texts]
+
+
 def as_numbers(column: Cells, taken: Set[str], report: Report) -> None:
-    """Makes whole numbers of a column of decimals, with the scale in its name; says where it has no exact ones."""
+    """Makes whole numbers of a column of decimals, or of numbers with one unit, with the unit and the scale in its name; says where it has
+    no exact ones."""
     texts = [it for it in column.values if it is not None and it not in NULLS and it != ""]
     kinds = {kind_of(it) for it in texts}
-    whole = {"bit", "integer", "plus"}
-    if not texts or kinds <= whole or not kinds <= whole | {"whole", "decimal", "thousands", "comma"}:
+    whole, unit = {"bit", "integer", "plus"}, ""
+    if texts and kinds == {"unit"}:
+        parted = without_unit(column, texts, report)
+        if not parted:
+            return
+        unit, texts = parted
+    elif not texts or kinds <= whole or not kinds <= whole | {"whole", "decimal", "thousands", "comma"}:
         return
     found = numbers(texts)
     made = scaled(found) if found else None
@@ -80,12 +97,20 @@ def as_numbers(column: Cells, taken: Set[str], report: Report) -> None:
     numbered = iter(whole)
     nulls = sorted({it for it in column.values if it is not None and (it in NULLS or it == "")})
     column.values = [None if it is None or it in NULLS or it == "" else str(next(numbered)) for it in column.values]
-    if digits:
-        column.name = own_name(f"{column.name[:48]}_x{10 ** digits}", taken)
+    name = with_unit(column.name, unit)
+    name = f"{name[:48]}_x{10 ** digits}" if digits else name
+    column.name = own_name(name, taken) if name != column.name else name
     column.kind = "integer"
-    column.did.append(f"times {10 ** digits}, exactly" if digits else "without its .0, exactly")
+    column.did += [f"without its unit {unit}"] if unit else []
+    column.did += [f"times {10 ** digits}, exactly"] if digits else ["without its .0, exactly"] if not unit else []
     if nulls:
         column.did.append(f"NULL for {', '.join(map(shown, nulls))}")
+
+
+def with_unit(name: str, unit: str) -> str:
+    """A column's name with the unit at its end; the name alone where it ends in the unit, as dist_km, or the unit has no letter."""
+    end = f"_{plain_name(unit, 1)}" if re.search(r"\w", unit) else ""
+    return name if f"_{name}".endswith(end) else name[:40] + end
 
 
 def null_texts(column: Cells) -> None:
@@ -136,7 +161,7 @@ def months(columns: List[Cells], taken: Set[str], report: Report) -> List[Cells]
 
 
 def improved(columns: List[Cells], report: Report, has_nulls: bool = True) -> List[Cells]:
-    """What a copy makes of columns: whole numbers of decimals, months beside dates; and, with `has_nulls`, NULL for the texts that mean
+    """What a copy makes of columns: whole numbers of decimals and of numbers with a unit, months beside dates; and, with `has_nulls`, NULL for the texts that mean
     it among numbers, truth values and dates."""
     taken = {it.name for it in columns}
     for it in columns:

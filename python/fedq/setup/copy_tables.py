@@ -11,7 +11,7 @@ from .databases import bind_sqlite, log_of, text_of
 
 
 def read_only(path: str) -> "sqlite3.Connection":
-    """A connection that only reads, and leaves nothing behind. Refused where there is no database."""
+    """A connection that only reads, and leaves no file. Refused where there is no database."""
     import sqlite3
     if not os.path.isfile(path):
         raise Refused(" is not there, or is no file")

@@ -1,6 +1,6 @@
 """What a cell of a CSV file looks like, and the type of a column of such cells."""
 import collections, functools, re
-from typing import List, NamedTuple, Optional, Sequence, Set
+from typing import List, NamedTuple, Optional, Sequence, Set, Tuple
 
 BOOLEANS = set("t true y yes on 1 f false n no off 0".split())
 NULLS = set("\\N NA N/A n/a na #N/A NULL Null null (null) None none nil NaN nan NAN NaT <NA> - -- ?".split())
@@ -11,6 +11,15 @@ SIGNS, AMOUNT = "$€£¥%", "[0-9][0-9.,' ]*"
 ZONE = r" ?(?:Z|[+-][0-9]{2}(?::?[0-9]{2})?|(?![AP]M\b)[A-Z]{2,5})(?: ?\[[A-Za-z0-9_/+-]+\])?"
 MONTH = "(?:Jan|Feb|Mar|Apr|May|Jun|Jul|Aug|Sep|Oct|Nov|Dec|JAN|FEB|MAR|APR|MAY|JUN|JUL|AUG|SEP|OCT|NOV|DEC)[A-Za-z]{0,6}\\.?"
 WEEKDAY = "(?:(?:Mon|Tue|Wed|Thu|Fri|Sat|Sun)[a-z]{0,6},? )?"
+# Units that a number may have after it: those of one sort in one text. (No capital by itself, and no d: 12 A and 3d are no numbers.)
+UNITS = ("km m cm mm nm mi mile miles ft feet in inch inches yd yards KM", "kg g mg lb lbs oz tons tonnes KG", "l ml cl gal",
+         "s sec secs second seconds ms min mins minute minutes h hr hrs hour hours day days week weeks month months year years",
+         "bytes kB KB MB GB TB KiB MiB GiB TiB", "mA mAh", "mV kV", "kW MW", "Wh kWh MWh kcal cal", "Hz kHz MHz GHz", "hPa kPa bar psi",
+         "km/h kmh mph m/s kn", "°C °F °", "m2 m² km2 km² ha", "m3 m³", "px", "rpm", "ppm",
+         *"EUR USD GBP CHF SEK NOK DKK JPY".split())
+SORT_OF_UNIT = {unit: sort for sort, units in enumerate(UNITS) for unit in units.split()}
+UNIT = "|".join(sorted(map(re.escape, SORT_OF_UNIT), key=len, reverse=True))
+MEASURE = rf" *[+-]?(?:[0-9]{{1,3}}(?:[,. '][0-9]{{3}})+|[0-9]+)(?:[.,][0-9]+)? ?(?:{UNIT}) *"
 # What a cell looks like that is neither integer nor boolean, and what is said of a column of such cells.
 LOOKS = [
     ("whole", r" *[+-]?[0-9]+\.0+ *", "has whole numbers with a point ({0}), as pandas writes them beside missing values"),
@@ -21,6 +30,7 @@ LOOKS = [
     ("infinite", r" *[+-]?[iI](?:nf|NF|nfinity|NFINITY) *", "has numbers that are not finite ({0})"),
     ("hexadecimal", r" *[+-]?0[xX][0-9a-fA-F]{1,16} *", "has hexadecimal numbers ({0})"),
     ("bracketed", rf" *(?:\([{SIGNS}]? ?{AMOUNT}\)|{AMOUNT}-|\u2212{AMOUNT}) *", "has negative numbers with brackets or a minus after ({0})"),
+    ("unit", MEASURE, "has numbers with a unit ({0})"),
     ("date", rf" *{DATE} *", "has dates ({0})"),
     ("time", rf"{TIME} *", "has times ({0})"),
     ("zoned", rf"{TIME}{ZONE} *", "has times with a zone ({0})"),
@@ -86,6 +96,11 @@ def kind_of(text: str) -> str:
     return look.lastgroup if look else "large" if WHOLE.fullmatch(text) else "text"
 
 
+def unit_of(text: str) -> str:
+    """The unit after a number."""
+    return text.lstrip("+-0123456789.,' ").rstrip(" ")
+
+
 @functools.lru_cache(maxsize=100_000)
 def form_of(text: str) -> str:
     """The form of a date or a time: its digits as 0, its zone as it is. Texts of one form sort by time."""
@@ -95,11 +110,12 @@ def form_of(text: str) -> str:
 
 
 class Column:
-    """A column of a CSV file: how many cells look like what, the first of each, the texts that mean NULL, with their first lines, and the
-    forms of its dates and times."""
+    """A column of a CSV file: how many cells look like what, the first of each, the texts that mean NULL, with their first lines, the forms
+    of its dates and times, the units of its numbers, and `twice`: two texts of one number, where there are such and somebody looked."""
 
     def __init__(self) -> None:
         self.count, self.first, self.nulls, self.forms = collections.Counter(), {}, {}, set()  # type: collections.Counter, dict, dict, set
+        self.units, self.twice = set(), None  # type: Set[str], Optional[Tuple[str, str]]
 
     def see(self, texts: Sequence[str], lines: Sequence[int]) -> None:
         """Takes cells in, each with its line."""
@@ -113,6 +129,8 @@ class Column:
                 self.nulls.setdefault(text, line)
         if len(self.forms) < MOST_FORMS and not DATES.isdisjoint(kinds):
             self.forms.update(form_of(text) for text, kind in zip(texts, kinds) if kind in DATES)
+        if "unit" in kinds:
+            self.units.update(unit_of(text) for text, kind in zip(texts, kinds) if kind == "unit")
 
     def kinds(self) -> Set[str]:
         """What its cells look like, empty ones and those of NULL left out."""
@@ -132,6 +150,18 @@ class Column:
         line, text = self.first[kind]
         return f"{text[:37] + '..' if len(text) > 40 else text!r}, line {line}"
 
+    def is_measured(self) -> bool:
+        """Whether its cells are numbers with units of one sort; some may be without, but fewer, and where all others have one unit."""
+        kinds, sorts = self.kinds(), {SORT_OF_UNIT[it] for it in self.units}
+        without = sum(self.count[it] for it in NUMBERS)
+        return "unit" in kinds and kinds <= {"unit", *NUMBERS} and len(sorts) == 1 and without < self.count["unit"] and (
+            not without or len(self.units) == 1)
+
+    def is_decimal(self) -> bool:
+        """Whether its cells are numbers, and some have a point."""
+        look = self.look()
+        return look is not None and look.kind == "decimal"
+
     def look(self) -> Optional[Look]:
         """What may surprise in this column as text, apart from its null texts; None where it is text alone."""
         kinds, many = self.kinds(), sum(self.count[it] for it in NUMBERS)
@@ -141,7 +171,10 @@ class Column:
             kind = next((it for it in SAID if it in kinds and it != "whole"), "whole")
             is_decimal = kind in ("decimal", "whole", "thousands", "comma")
             note = "decimal" if is_decimal else "mixed" if kind in ("signed", "plus", "large") else None
-            return Look(SAID[kind].format(self.shown(kind)), note, True)
+            ways = f" and one number in two ways ({self.twice[0]!r} and {self.twice[1]!r})" if self.twice and is_decimal else ""
+            return Look(SAID[kind].format(self.shown(kind)) + ways, note, True)
+        if self.is_measured():
+            return Look(SAID["unit"].format(self.shown("unit")), "unit" if kinds == {"unit"} and len(self.units) == 1 else "units", True)
         odd = sorted(kinds & ODD_NUMBERS, key=lambda it: self.first[it][0])
         if odd and kinds <= NUMBERS | ODD_NUMBERS:
             return Look(SAID[odd[0]].format(self.shown(odd[0])), "mixed", True)
@@ -166,6 +199,7 @@ def null_text(columns: "List[Column]") -> str:
     dates; by default \\N."""
     single = [it for it in columns if len(it.nulls) == 1]
     votes = collections.Counter(text for it in single if it.type_but_nulls() != "text" for text in it.nulls)
-    looks = collections.Counter(text for it in single if it.kinds() and it.kinds() <= NUMBERS | DATES | {"day"} for text in it.nulls)
+    looked = NUMBERS | DATES | {"day", "unit"}
+    looks = collections.Counter(text for it in single if it.kinds() and it.kinds() <= looked for text in it.nulls)
     ranked = sorted(looks | votes, key=lambda it: (-votes[it], -looks[it], it))
     return ranked[0] if ranked else "\\N"

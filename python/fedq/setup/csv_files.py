@@ -1,17 +1,19 @@
 """CSV files: their records, their columns, and what may surprise in them."""
 import csv, io, itertools, re
-from typing import Iterator, List, Optional, Tuple
+from typing import Iterable, Iterator, List, Optional, Tuple
 
 from ..names import quoted_name
+from ..notes import COPIED
 from ..sql import quoted_text
 from ..terminal import path_word, shell_word
 from .advice import MOST_SAID, NUL, Refused, Report, beside, listed, own_name, plain_name, python_text, shown
-from .csv_cells import Column, Look, kind_of, null_text
+from .csv_cells import NULLS, Column, Look, kind_of, null_text
 from .files import content, is_copy, packed, text_of
 
 MOST_ROWS, MOST_COLUMNS = 1_000_000, 64
 NO_NAMES = {"bit", "integer", "zeros", "plus", "large", "whole", "decimal", "signed", "date", "time", "zoned", "ymd", "day"}
 SEPARATOR_LINE = re.compile(r'\ufeff?"?sep=([,;\t|])"?(?:\r\n|\r|\n)')  # (which Excel reads, and some programs write for it)
+PLAIN_NUMBER = re.compile(r"(?!-0(?:\.0+)?$)-?(?:0|[1-9][0-9]*)(?:\.[0-9]+)?").fullmatch
 OPEN_QUOTE = "a quote is never closed: the rest of the file is one cell"
 
 
@@ -46,7 +48,7 @@ def separator(text: str) -> Tuple[str, str]:
 
 
 def parted_by(path: str, text: str) -> None:
-    """Refuses a file whose fields are parted by something else than commas, or whose first line says by what they are."""
+    """Refuses a file whose fields are separated by something else than commas, or whose first line names a separator."""
     sign = SEPARATOR_LINE.match(text)
     if sign:
         rows = f"csv.reader((sys.stdin.readline(), sys.stdin)[1], delimiter={python_text(sign[1])})"
@@ -54,7 +56,7 @@ def parted_by(path: str, text: str) -> None:
     mark, name = separator(text)
     if mark != ",":
         rows = f"csv.reader(sys.stdin, delimiter={python_text(mark)})"
-        raise Refused(f" is parted by {name}, not by commas: {rewritten(rows, path, '_commas.csv')}", 1, by_copy=True)
+        raise Refused(f" is separated by {name}, not by commas: {rewritten(rows, path, '_commas.csv')}", 1, by_copy=True)
 
 
 def is_open_quote(text: str, mark: str) -> bool:
@@ -65,7 +67,7 @@ def is_open_quote(text: str, mark: str) -> bool:
 
 
 def quotes(report: Report, text: str, last: int, mark: str = ",") -> None:
-    """Warns of a quote that is never closed, which makes the rest of the file one cell, and of text behind a closing quote."""
+    """Warns of a quote that is never closed, which makes the rest of the file one cell, and of text after a closing quote."""
     if '"' not in text:
         return
     lines = re.split(r"(?<=\n)|(?<=\r)(?!\n)", text)
@@ -78,7 +80,7 @@ def quotes(report: Report, text: str, last: int, mark: str = ",") -> None:
             pass
     except csv.Error as error:
         if "expected after" in str(error):
-            report.warn(": text stands behind a closing quote: was a quote within the cell not doubled?", reader.line_num)
+            report.warn(": there is text after a closing quote: was a quote within the cell not doubled?", reader.line_num)
 
 
 def widths(report: Report, found: list, wanted: int, whose: str) -> bool:
@@ -156,7 +158,7 @@ def has_header(report: Report, first: List[str], columns: List[Column]) -> bool:
         report.warn(f" has no names, as {shown(next((it for it in first if kind_of(it) not in ('text', 'empty')), ''))}: "
                     f"it is taken as a row, and the columns are called {said}{', ..' * (len(first) > 3)}", 1)
         return False
-    if all(it.kinds() <= {"text"} for it in columns):
+    if all(it.kinds() <= {"text", "unit"} for it in columns):
         names = ", ".join(first[:4]) + ", .." * (len(first) > 4)
         report.warn(f" is taken as the header ({names}), which is a guess where every column is text: "
                     "if it is a row, take header 'true' out", 1)
@@ -177,7 +179,30 @@ def heading_names(report: Report, first: List[str]) -> List[str]:
     return names
 
 
+def written_twice(texts: Iterable[str]) -> Optional[Tuple[str, str]]:
+    """The first two of these texts that are one number, as 2.5 and 2.50; None where each number is written in one way, and where the texts
+    may mean several numbers. Texts that mean NULL are passed over."""
+    given = [it for it in dict.fromkeys(texts) if it and it not in NULLS]
+    if all(map(PLAIN_NUMBER, given)):
+        found = [it.rstrip("0").rstrip(".") if "." in it else it for it in given]
+    else:
+        from .copy_cells import numbers  # (Python's decimals take time to import)
+        found = numbers(given) or []
+    first = {}  # type: dict
+    for text, number in zip(given, found):
+        if first.setdefault(number, text) is not text:
+            return first[number], text
+    return None
+
+
 BY_TEXT = "text, so sum is refused, and max, min, <, BETWEEN and ORDER BY go by characters"
+
+
+def kinds_of_notes(column: Column, look: Optional[Look], has_empty_texts: bool) -> List[str]:
+    """The kinds of `fedq.notes` of a column that is text and looks so; `has_empty_texts` is whether its empty cells are texts, not NULL."""
+    if look and look.kind:
+        return [look.kind] + ["two_ways"] * (look.kind == "decimal" and column.twice is not None)
+    return ["empty_text"] if column.count["empty"] and has_empty_texts else []
 
 
 def column_notes(report: Report, seen: List[Tuple[str, Column]], null: str, choice: str) -> Tuple[str, str]:
@@ -193,15 +218,12 @@ def column_notes(report: Report, seen: List[Tuple[str, Column]], null: str, choi
             look = look._replace(said=f"{look.said}, and count counts its {column.count['empty']:,} empty cells")
         if look:
             (misled if look.misleads else calm).append(f"{name} {look.said}")
-        if look and look.kind:
-            report.notes.append((name, look.kind))
-        elif column.count["empty"] and null:
-            report.notes.append((name, "empty_text"))
+        report.notes += [(name, kind) for kind in kinds_of_notes(column, look, bool(null))]
         if null in column.nulls and null != "\\N" and not look:
             others.append(f"{name}: {shown(null)} is read as NULL here too (line {column.nulls[null]})")
     by_text = f"{BY_TEXT}: {listed(misled)}" if misled else ""
     parts = [it for it in (by_text, listed(calm) if misled or others or choice else "", *others[:4], choice) if it]
-    report.by_copy = report.by_copy or any(kind == "decimal" for _, kind in report.notes)
+    report.by_copy = report.by_copy or any(kind in COPIED for _, kind in report.notes)
     return "; ".join(parts), f"text: {listed(calm)}" if calm and not parts else ""
 
 
@@ -264,6 +286,9 @@ def bind_csv(path: str, report: Report) -> Optional[Tuple[List[str], str]]:
     null = null_text(columns)
     texts = [(name, it) for name, it in zip(names, columns) if it.type_under(null) == "text"]
     null, choice = null_choice(text, columns, texts, null)
+    for at, it in enumerate(columns):
+        if it.is_decimal():
+            it.twice = written_twice(fields[at] for _, fields in found[header:])
     kinds = [it.type_under(null) for it in columns]
     misled, calm = column_notes(report, [(name, it) for name, it, kind in zip(names, columns, kinds) if kind == "text"], null, choice)
     if misled:

@@ -7,7 +7,7 @@ from ..sql import quoted_text
 from ..terminal import path_word, shell_word
 from .advice import Refused, Report, beside, json_text, listed, own_name, plain_name, shown
 from .csv_cells import Column, is_integer
-from .csv_files import MOST_COLUMNS, MOST_ROWS, column_notes
+from .csv_files import MOST_COLUMNS, MOST_ROWS, column_notes, written_twice
 from .files import content, packed
 
 
@@ -62,7 +62,7 @@ DECODER = json.JSONDecoder(parse_int=whole, parse_float=real, parse_constant=no_
 
 
 def depth(value: object) -> int:
-    """How deep arrays and objects stand in one another."""
+    """How deep arrays and objects are nested."""
     inner = value.values() if isinstance(value, dict) else value if isinstance(value, list) else None
     return 0 if inner is None else 1 + max(map(depth, inner), default=0)
 
@@ -172,12 +172,12 @@ def say_left_out(report: Report, path: str, found: List[Tuple[str, int, str]], m
 
 
 def likely(report: Report, counts: dict, firsts: dict, rows: int) -> None:
-    """Warns of a member that stands in few lines, and is called nearly as another."""
+    """Warns of a member that few lines have, and whose name is nearly that of another."""
     for member, count in counts.items():
         others = [it for it in counts if it != member and counts[it] > count]
         near = [it for it in others if it.lower() == member.lower()] or difflib.get_close_matches(member, others, 1, 0.74)
         if near and counts[member] + counts[near[0]] <= rows:
-            report.warn(f": {member} stands in {count} of {rows} lines, where {near[0]} does not: is it meant?", firsts[member])
+            report.warn(f": {member} is in {count} of {rows} lines, where {near[0]} is not: is it meant?", firsts[member])
 
 
 def say_twice(report: Report, twice: Dict[str, int], is_row: bool = False) -> None:
@@ -206,6 +206,12 @@ class Texts:
             self.seen.see(self.texts, self.lines)
         self.texts, self.lines = [], []
         return self.seen
+
+
+def see_twice(path: str, member: str, column: Column) -> None:
+    """Looks in a file for two texts of a member that are one number, where the texts are decimals."""
+    if column.is_decimal():
+        column.twice = written_twice(it[member] for _, it in read_lines(path) if isinstance(it.get(member), str))
 
 
 def bind_jsonl(path: str, report: Report) -> Optional[Tuple[list, str]]:
@@ -239,6 +245,7 @@ def bind_jsonl(path: str, report: Report) -> Optional[Tuple[list, str]]:
             columns.append(f"{quoted_name(name)} {own[0] if own else 'text'}{option}")
             if own == ["text"] and looks[member].column().kinds() - {"bit", "integer", "boolean"}:
                 texts.append((name, looks[member].column()))
+                see_twice(path, member, texts[-1][1])
         if len(columns) == before:
             report.unbound.append(member)
     say_left_out(report, path, out_left, *column_notes(report, texts, "", ""))

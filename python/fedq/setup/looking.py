@@ -2,7 +2,8 @@
 import difflib, os
 from typing import Optional
 
-from .advice import Report
+from ..notes import COPIED
+from .advice import WARNING, Report
 
 NESTED = " is an object (line "  # a member whose own members are columns of a copy
 MOST_SAID = 3  # of the warnings on one file
@@ -10,10 +11,10 @@ NO_TABLE = " is no table by its name: left out"  # what is said of a page or a s
 
 
 def in_one_line(report: Report) -> Optional[str]:
-    """What a report says, on one line: why the file is not bound, else what may surprise; and the words that make a plain copy, where that
+    """What a report says, on one line: why the file is not bound, else what may surprise; and the command that makes a plain copy, where that
     makes more of it than the command that is said. None where there is nothing to say."""
     said = faults_of(report) if report.faults else warnings_of(report)
-    makes_more = report.by_copy and (report.faults or NESTED in (said or "") or any(kind == "decimal" for _, kind in report.notes))
+    makes_more = report.by_copy and (report.faults or NESTED in (said or "") or any(kind in COPIED for _, kind in report.notes))
     if not said or not makes_more or not report.source or " --copy " in said:
         return said
     name = report.source.partition("=")[0].rpartition(" ")[2]
@@ -31,11 +32,10 @@ def warnings_of(report: Report) -> Optional[str]:
     said = [it for it in report.warnings if not it.endswith(NO_TABLE)]
     if not said:
         return None
-    mark = "warning: "
-    plain = [it[len(mark):] if it.startswith(mark) else it for it in said]
+    plain = [it[len(WARNING):] if it.startswith(WARNING) else it for it in said]
     rest = [it[len(report.name):].lstrip(" :") if it.startswith(report.name) else it for it in plain[1:MOST_SAID]]
     more = len(said) - MOST_SAID
-    return "; ".join([mark + plain[0], *rest, *([f"and {more} more"] if more > 0 else [])])
+    return "; ".join([WARNING + plain[0], *rest, *([f"and {more} more"] if more > 0 else [])])
 
 
 def lacking(kind: str, path: str) -> Optional[str]:

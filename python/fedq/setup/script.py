@@ -17,7 +17,7 @@ BINDERS = {"csv": bind_csv, "jsonl": bind_jsonl}
 
 
 def guarded(call: Callable, path: str, report: Report) -> object:
-    """What a call gives, or None where the file is refused, which is reported."""
+    """What a call returns, or None where the file is refused, which is reported."""
     try:
         return call(path, report)
     except Refused as refused:
@@ -33,7 +33,7 @@ def guarded(call: Callable, path: str, report: Report) -> object:
 
 
 def tables_of_folder(kind: str, folder: str, is_of_both: bool) -> List[tuple]:
-    """Each file of a folder in order: its name, what binds it or None, and its report. Of a folder of both kinds each has its own files."""
+    """Each file of a folder in order: its name, what binds it or None, and its report. In a folder of both kinds each has its own files."""
     try:
         names = sorted(os.listdir(folder))
     except OSError as error:

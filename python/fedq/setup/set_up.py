@@ -1,4 +1,4 @@
-"""What fedq-setup makes of sources, for programs: the shell, the driver, and its own words."""
+"""What fedq-setup makes of sources, for programs: the shell, the driver, and its own command."""
 import csv, gc, os, threading
 from dataclasses import dataclass
 from typing import Dict, Iterable, List, Mapping, Optional, Set, Union
@@ -29,7 +29,7 @@ class SetUp:
 
 
 def sources_of(words: Mapping[str, Iterable[str]]) -> Dict[str, Dict[str, str]]:
-    """The sources that words NAME=PATH of each kind name, by kind and name. Fails with ValueError where they name none."""
+    """The sources that arguments NAME=PATH of each kind name, by kind and name. Fails with ValueError where they name none."""
     found, names = {it: {} for it in KINDS}, set()  # type: Dict[str, Dict[str, str]], Set[str]
     for kind in KINDS:
         for word in words.get(kind, ()):
@@ -71,7 +71,7 @@ LARGE_FILES = LargeFiles()
 
 def set_up(folders: Sources, write: bool = False, write_acl: bool = False, has_copies: bool = False,
            files: Optional[Mapping[str, str]] = None) -> SetUp:
-    """Looks at sources, by their kind (csv, jsonl, sqlite) and name, and gives the script that binds them. With `write` their tables can
+    """Looks at sources, by their kind (csv, jsonl, sqlite) and name, and returns the script that binds them. With `write` their tables can
     be written, but where files have access control lists, and with `write_acl` there too; with `has_copies` nothing is said of tables of
     databases that cannot be bound. `files` has, of a source that is one file of its folder, the file's name."""
     script = Script(write, write_acl, has_copies)
@@ -90,7 +90,7 @@ def set_up(folders: Sources, write: bool = False, write_acl: bool = False, has_c
 
 
 def set_up_copies(folders: Sources, folder: str, write: bool = False, write_acl: bool = False) -> "tuple":
-    """Makes plain copies of sources in a folder, and gives what was copied, the sources to start with, and what `set_up` gives of them.
+    """Makes plain copies of sources in a folder, and returns what was copied, the sources to start with, and what `set_up` returns of them.
     Tables of databases that can be bound are bound where they are. Fails with Refused where the folder cannot be taken."""
     from .copying import copied  # (the shell needs none of it)
     copies = copied([(kind, name, os.fspath(path)) for kind, named in folders.items() for name, path in named.items()], folder)

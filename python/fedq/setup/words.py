@@ -1,9 +1,9 @@
-"""The words with which fedq-setup is started."""
+"""The arguments with which fedq-setup is started."""
 import argparse, gc, os, sys
 from typing import Dict, List, Tuple
 
 from ..terminal import folder_word, path_word
-from .advice import Refused, say
+from .advice import WARNING, Refused, say
 from .check import check
 from .set_up import set_up, set_up_copies, sources_of
 
@@ -14,29 +14,29 @@ USAGE = """usage: fedq-setup [--csv NAME=FOLDER].. [--jsonl NAME=FOLDER].. [--sq
 Looks at folders of CSV files, of JSON lines, and at SQLite databases, and writes an init file for `fedq run` and `fedq-shell`: a table for
 each file, its columns' names from the header, their types from all cells, and a mapping for everybody, to read; with --write to write too.
 What cannot be bound, and what may surprise, is printed on standard error, with file, line and reason.
-The status is 1 where something could not be bound, 2 where the words are wrong.
+The status is 1 where something could not be bound, 2 where the arguments are wrong.
 
 fedq cannot see access control lists, so a write may widen who reads a file that has one: --write reports each, and binds the tables of its
 source for reading alone; --write-acl binds them for writing all the same.
 
 --copy FOLDER makes plain copies of the sources in FOLDER, those anew whose source was changed since, and binds the copies: CSV with commas
-in UTF-8, a JSON object a line with members a_b for objects, whole numbers for decimals (price_x100), a month beside a date, and tables of
-databases that cannot be bound. FOLDER/fedq-copies.json says what was done. The sources stay as they are. Prints the words to start with;
+in UTF-8, a JSON object a line with members a_b for objects, whole numbers for decimals (price_x100) and for numbers with a unit (way_km),
+a month beside a date, and tables of databases that cannot be bound. FOLDER/fedq-copies.json says what was done. The sources stay as they are. Prints the arguments to start with;
 the init file is written where --out is given.
 
 --check prints on standard output why a CREATE FOREIGN TABLE over FILE is refused, a line for each fault, and ends with 1 where
-there is one. Of a database FOLDER is the database, and FILE its table."""
+there is one. For a database FOLDER is the database, and FILE its table."""
 
 
 def usage_fault(said: str) -> int:
-    """Prints what is wrong with the words; the exit status."""
+    """Prints what is wrong with the arguments; the exit status."""
     for line in (f"fedq-setup: {said}", USAGE.splitlines()[0], "fedq-setup --help has more"):
         say(line)
     return 2
 
 
 class Words(argparse.ArgumentParser):
-    """Reads words; what is wrong with them ends the program."""
+    """Reads arguments; what is wrong with them ends the program."""
 
     def error(self, message: str) -> None:
         """Ends the program with status 2."""
@@ -44,7 +44,7 @@ class Words(argparse.ArgumentParser):
 
 
 def texts_of(given: List[str]) -> Tuple[Dict[str, str], List[str]]:
-    """The texts after --columns, --members and --null, which may begin with dashes, and the other words."""
+    """The texts after --columns, --members and --null, which may begin with dashes, and the other arguments."""
     texts, rest, given = {"columns": None, "members": None, "null": "\\N"}, [], iter(given)
     for word in given:
         name, mark, text = word.partition("=")
@@ -90,7 +90,7 @@ def copy_sources(words: argparse.Namespace) -> int:
         for line in report.lines():
             say(line)
     for line in made.warnings:
-        if line.startswith("warning: ") or made.failed:
+        if line.startswith(WARNING) or made.failed:
             say(line)
     start = " ".join(f"--{kind} {name}={folder_word(os.fspath(path))}" for kind, named in sources.items() for name, path in named.items())
     init = f" --init {path_word(words.out)}" if words.out else ""
@@ -100,7 +100,7 @@ def copy_sources(words: argparse.Namespace) -> int:
 
 
 def read(given: List[str]) -> argparse.Namespace:
-    """What the words say."""
+    """What the arguments say."""
     parser = Words(prog="fedq-setup", add_help=False, allow_abbrev=False)
     for word in ("--csv", "--jsonl", "--sqlite"):
         parser.add_argument(word, action="append", default=[])
@@ -115,7 +115,7 @@ def read(given: List[str]) -> argparse.Namespace:
 
 
 def main(given: List[str]) -> int:
-    """Does what the words ask; the exit status."""
+    """Does what the arguments say; the exit status."""
     words = read(given)
     sys.stdout.reconfigure(errors="backslashreplace")
     if words.help:

@@ -1,1 +1,1 @@
-"""fedq-shell: reads SQL as a person writes it, asks the program, and prints what it answers."""
+"""fedq-shell: reads SQL as a person writes it, sends it to the program, and prints what that answers."""

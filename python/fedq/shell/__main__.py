@@ -4,7 +4,7 @@ import os
 import sys
 
 if sys.version_info < (3, 8):
-    sys.exit("fedq-shell: python3 3.8 or later is needed, and this is %d.%d: ./fedq run answers without it, as docs/PROTOCOL.md tells"
+    sys.exit("fedq-shell: python3 3.8 or later is needed, and this is %d.%d: ./fedq run answers without it, as docs/PROTOCOL.md says"
              % sys.version_info[:2])
 
 if __name__ == "__main__":

@@ -31,7 +31,7 @@ class Column:
 
 
 class Object:
-    """What a statement makes or drops. `kind` is table, server, wrapper or mapping; `of` what it stands on (of a wrapper: its HANDLER)."""
+    """What a statement makes or drops. `kind` is table, server, wrapper or mapping; `of` what it is based on (of a wrapper: its HANDLER)."""
     of = ""
 
     def __init__(self, kind, name, is_drop) -> None:
@@ -185,7 +185,7 @@ class Catalogue:
         return {it.name: it for it in self.of_kind("table")}
 
     def source_of(self, server_name: str) -> tuple[str, str, str]:
-        """Kind, name and path of the source behind a server; nothing of what is not known."""
+        """Kind, name and path of a server's source; nothing of what is not known."""
         server = self.get("server", server_name)
         wrapper = server and self.get("wrapper", server.of)
         name = server.options.get("source", "") if server else ""

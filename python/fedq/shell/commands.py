@@ -10,7 +10,7 @@ from .elsewhere import asked_table, know_tables
 from .statements import Reader
 from .words import FORMATS
 
-OF_SERVED = "(of a served engine the shell knows what was made through it alone; \\d NAME asks for a table's columns)"
+OF_SERVED = "(of a served engine the shell knows what was made through it alone; \\d NAME gets a table's columns)"
 MOST_NESTED = 16  # files that read one another
 
 
@@ -49,7 +49,7 @@ class Commands:
             "\\save": ("FILE", "writes what made the tables to a file, for --init", self.save),
             "\\x": ("", "one line for each field of a row, or tables again", self.expand),
             "\\format": ("[FORMAT]", ", ".join(FORMATS), self.set_format),
-            "\\null": ("[TEXT]", "what stands for NULL in tables", self.set_null),
+            "\\null": ("[TEXT]", "what is shown for NULL in tables", self.set_null),
             "\\timing": ("[on|off]", "whether the time of each statement is shown", self.set_timing),
             "\\pager": ("", "whether long tables go through PAGER, or less", self.switch_pager),
             "\\?": ("", "this text; also help", self.help),
@@ -57,7 +57,7 @@ class Commands:
         }
 
     def is_command(self, line: str, is_inside: bool, is_typed: bool) -> bool:
-        """Whether a line is a command. Within a statement the words are so only where a person types them: a file may have a column
+        """Whether a line is a command. Within a statement its words are a command only where a person types them: a file may have a column
         help."""
         word = line.strip().rstrip(";").strip()
         is_word = word.lower() in ("help", "quit", "exit")
@@ -92,7 +92,7 @@ class Commands:
         lines = ["SQL ends with ; and may go over several lines; -- begins a comment. Ctrl-C stops a statement, or drops the line.", *forms,
                  f"NULL is shown as {self.session.settings.null}; in csv it is an empty field, and the empty text \"\"; "
                  "in json it is null.",
-                 "In tables \\\\, \\t, \\n and \\r stand for a backslash, TAB and line ends.",
+                 "In tables \\\\, \\t, \\n and \\r are a backslash, TAB and line ends.",
                  "docs/LANGUAGE.md has the SQL, docs/SOURCES.md the options, docs/ERRORS.md what each code means."]
         self.session.show_here(*lines)
 
@@ -236,11 +236,10 @@ class Commands:
         lines = list(one(catalogue, name) if name else everything(catalogue))
         if not name and self.session.words.port:
             lines += [] if is_gateway else [OF_SERVED]
-        self.session.show_here(*(lines or [self.asked(name)]))
+        self.session.show_here(*(lines or self.asked(name)))
 
-    def asked(self, name: str) -> str:
-        """The columns of a table that the shell has not seen made, by the engine's answer."""
-        table = asked_table(self.session, name)
-        if table is None:
+    def asked(self, name: str) -> list[str]:
+        """What is shown of a table that the shell has not seen made, by the engine's answer."""
+        if asked_table(self.session, name) is None:
             raise Failed(f"no table or server {name} is known")
-        return f"foreign table {table}"
+        return list(one(self.session.catalogue, name))

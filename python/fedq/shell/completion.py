@@ -19,7 +19,7 @@ WORDS = ("SELECT DISTINCT FROM WHERE GROUP BY HAVING ORDER LIMIT OFFSET JOIN LEF
 BEFORE_TABLES = re.compile(r"(\b(from|join|into|update|table|table\s+if\s+exists)\s+|\bfrom\s[^()]*,\s*|^\s*\\d\s+|^\s*\\copy\s+)\"?$",
                            re.I)
 FILES = re.compile(r"\s*(\\(i|o|e|save)\s|\\copy\s.*\sto\s+)'?$", re.I)
-# Where words are cut: a name in quotes is completed behind its quote.
+# Where words are cut: a name in quotes is completed after its quote.
 DELIMITERS = " \t\n,;()<>=+*/%'\""
 
 
@@ -30,7 +30,7 @@ class Completer:
         self.catalogue, self.commands = catalogue, commands
 
     def ways(self, text: str, before: str, whole: str = "") -> list[str]:
-        """How `text` may go on where `before` stands before it in the line. `whole` is the statement, also after the cursor."""
+        """How `text` may go on where `before` is the line before it. `whole` is the statement, also after the cursor."""
         if not before.strip() and text.startswith("\\"):
             return [it + " " for it in self.commands if it.startswith(text)]
         if FILES.match(before):
@@ -68,14 +68,14 @@ class Completer:
         return [*(it.name for table in chosen for it in table.columns), *(name for name, _ in called if name in tables or chosen), *objects]
 
     def keywords(self, text: str, before: str) -> list[str]:
-        """The keywords that begin with `text`, in its case, where one may stand."""
+        """The keywords that begin with `text`, in its case, where one is allowed."""
         if not text or BEFORE_TABLES.search(before):
             return []
         return [it for it in (WORDS if text.isupper() else map(str.lower, WORDS)) if it.startswith(text)]
 
 
 def written(names: Iterable[str], begin: str, is_quoted: bool) -> Iterator[str]:
-    """The names that begin so, as they are written behind what was typed: in quotes where they have to be."""
+    """The names that begin so, as they are written after what was typed: in quotes where they have to be."""
     for name in names:
         if name.lower().startswith(begin.lower()) and printable(name) == name:
             if is_quoted:

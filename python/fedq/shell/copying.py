@@ -1,4 +1,4 @@
-"""\\copy (SELECT ..) TO FILE: what its words mean, and a file that is there once it is whole."""
+"""\\copy (SELECT ..) TO FILE: what its parts mean, and a file that is there once it is whole."""
 from __future__ import annotations
 
 import copy, os, re, stat, sys
@@ -30,7 +30,7 @@ class Copy(NamedTuple):
 
 
 def read(argument: str) -> Copy:
-    """What follows \\copy. Fails with ValueError, whose text says what may stand there."""
+    """What follows \\copy. Fails with ValueError, whose text says what may follow."""
     if FROM.match(argument):
         raise ValueError("\\copy writes rows to files alone: a file is read by fedq-setup --csv, and rows are written by INSERT")
     found = FORM.fullmatch(argument)

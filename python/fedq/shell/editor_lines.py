@@ -84,7 +84,7 @@ class ReadlineLines(Plain):
         return input(prompt_of(reader)).split("\n")
 
     def complete(self, text: str, number: int) -> str | None:
-        """The number-th way to go on behind `text`, or None: what readline asks for."""
+        """The number-th way to go on after `text`, or None: what readline calls."""
         if number == 0:
             line, begin = readline.get_line_buffer(), readline.get_begidx()
             is_command = line.lstrip().startswith("\\") or not self.before

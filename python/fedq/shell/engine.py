@@ -32,14 +32,14 @@ class Nobody:
 
 
 class Engine:
-    """Asks one request after the other. Ctrl-C interrupts only the waiting for a reply and what is done with its rows, so nothing that
+    """Sends one request after the other. Ctrl-C interrupts only the waiting for a reply and what is done with its rows, so nothing that
     came is lost."""
 
     def __init__(self, watcher, interrupts) -> None:
         self.watcher, self.interrupts, self.is_busy, self.rest, self.last = watcher, interrupts, False, [], ""
 
     def ask(self, session: int, request: str, take_page: Callable[[str], None]) -> Reply:
-        """Sends `request` for a session and reads its reply, in pages: `take_page` takes the H and R lines of each, as one text. Gives
+        """Sends `request` for a session and reads its reply, in pages: `take_page` takes the H and R lines of each, as one text. Returns
         the Reply. Where it is left by an exception before, `is_busy` stays: what then comes belongs to this request."""
         self.is_busy, self.rest, self.last, self.has_rows = True, [], "", False
         self.send(f"{session} {request}\n".encode())
@@ -131,7 +131,7 @@ class Program(Engine):
             raise Ended(self.finish())
 
     def finish(self) -> int:
-        """Lets the program end, and gives its status."""
+        """Lets the program end, and returns its status."""
         self.close(self.process.stdin)
         try:
             self.process.wait(PATIENCE)
@@ -140,7 +140,7 @@ class Program(Engine):
         return self.stop()
 
     def stop(self) -> int:
-        """Ends the program and what it started, at once where it has not ended, and gives its status."""
+        """Ends the program and what it started, at once where it has not ended, and returns its status."""
         if self.process.poll() is None:
             self.signal(signal.SIGTERM)
             try:
@@ -184,7 +184,7 @@ class Connection(Engine):
             raise Ended(1)
 
     def finish(self) -> int:
-        """Ends the connection, and gives the status 0."""
+        """Ends the connection, and returns the status 0."""
         return self.stop()
 
     def stop(self) -> int:

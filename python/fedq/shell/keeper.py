@@ -53,7 +53,7 @@ class Keeper:
             raise Broken(f"nobody serves port {port}: {fault.strerror}; {way_out}")
 
     def ask_as(self, session: int, text: str) -> Reply:
-        """Asks a statement in one of the two sessions, and drops its rows."""
+        """Sends a statement in one of the two sessions, and drops its rows."""
         if session == OWNER and not self.has_owner:
             self.engine.ask(OWNER, f"OPEN {self.words.owner}", drop)
             self.has_owner = True
@@ -101,7 +101,7 @@ class Keeper:
         return not self.is_to_begin
 
     def make_all_again(self) -> int:
-        """Asks once more what made objects and rows, and tells what is refused; how many statements were done. (A served engine has kept
+        """Sends once more what made objects and rows, and reports what is refused; how many statements were done. (A served engine has kept
         them.)"""
         done = []
         for session, text in [] if self.words.port else self.made:
@@ -122,7 +122,7 @@ class Keeper:
             self.engine.stop()
 
     def finish(self) -> int:
-        """Ends the engine in order, and gives its status."""
+        """Ends the engine in order, and returns its status."""
         return self.engine.stop() if self.engine.is_busy or self.is_to_begin else self.engine.finish()
 
 

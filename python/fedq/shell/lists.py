@@ -19,7 +19,7 @@ FUNCTIONS = [
 
 
 def tables(catalogue: Catalogue) -> Listed:
-    """The foreign tables, with their servers and what they stand for."""
+    """The foreign tables, with their servers and what they read."""
     rows = []
     for it in catalogue.of_kind("table"):
         remote = it.options.get("filename", it.options.get("table", ""))

@@ -1,4 +1,4 @@
-"""How rows are shown: as aligned tables, one field a line, CSV, lines with TABs, tables of Markdown, or JSON objects, one a line."""
+"""How rows are shown: as aligned tables, one field a line, CSV, lines with TABs, tables of Markdown, an array of JSON objects, or JSON lines."""
 from __future__ import annotations
 
 import re, unicodedata
@@ -40,7 +40,7 @@ def counted(count: int) -> str:
 
 class Writer:
     """Takes one answer. `header` and `page` come while the reply is read, `end` when it was; `write` takes the text to show. A page is
-    the text of its rows: LF stands between rows and TAB between fields."""
+    the text of its rows: LF is between rows and TAB between fields."""
 
     def __init__(self, settings, types, write) -> None:
         self.settings, self.types, self.write, self.names, self.count = settings, types, write, [], 0
@@ -97,11 +97,11 @@ class Aligned(Writer):
             self.look_for_texts(text.replace("\n", "\t").split("\t"))
 
     def is_plain(self, text: str) -> bool:
-        """Whether each character of a page, and of what stands for NULL, takes one column."""
+        """Whether each character of a page, and of what is shown for NULL, takes one column."""
         return text.isascii() and (NULL not in text or width_of(self.settings.null) == len(self.settings.null))
 
     def look_for_texts(self, fields: list[str]) -> None:
-        """Of columns whose type is not known: one with a field that is no number stands to the left, and one that has NULL alone."""
+        """Where a column's type is not known: one with a field that is no number is aligned left, and one that has NULL alone."""
         count = len(self.names)
         for at, known in enumerate(self.types):
             if self.is_right[at] and not known:
@@ -136,7 +136,7 @@ class Aligned(Writer):
 
 
 class Expanded(Writer):
-    """One line for each field. The pages are kept, so that the pager is told how many lines there are."""
+    """One line for each field. The pages are kept, so that the pager knows how many lines there are."""
 
     def header(self) -> None:
         self.names = list(map(printable, self.names))
@@ -163,7 +163,7 @@ class Expanded(Writer):
 
 
 class Csv(Writer):
-    """CSV as `psql --csv` writes it: NULL is an empty field, the empty text stands in quotes."""
+    """CSV as `psql --csv` writes it: NULL is an empty field, the empty text is in quotes."""
 
     def header(self) -> None:
         self.write(self.row("\t".join(self.names)))
@@ -186,8 +186,8 @@ class Csv(Writer):
         return '"' + text.replace('"', '""') + '"' if not text or NEEDS_QUOTES.search(text) else text
 
 
-class Json(Writer):
-    """JSON lines: an object a row. Whole numbers and booleans are so where the shell knows the column's type, and else texts."""
+class JsonLines(Writer):
+    """JSON lines: an object a row, on a line of its own. Whole numbers and booleans are so where the shell knows the column's type, and else texts."""
 
     def header(self) -> None:
         values = {"integer": str, "boolean": {"t": "true", "f": "false"}.get}
@@ -195,7 +195,7 @@ class Json(Writer):
         self.heads = [f"{', ' if at else '{'}{encode_basestring(it)}: " for at, it in enumerate(self.own_names())]
 
     def own_names(self) -> list[str]:
-        """The names of the output; of one that stands again the second is name_2."""
+        """The names of the output; of a repeated name the second is name_2."""
         found = []
         for name in map(unescaped, self.names):
             own, number = name, 1
@@ -210,12 +210,27 @@ class Json(Writer):
         return encode_basestring(unescaped(field))
 
     def page(self, text: str) -> None:
-        self.write("".join(map(self.object, text.split("\n"))))
+        self.write("\n".join(map(self.object, text.split("\n"))) + "\n")
 
     def object(self, row: str) -> str:
         """An object of JSON, of the text of a row."""
         members = zip(self.heads, self.values, row.split("\t"))
-        return "".join([f"{head}{'null' if it == NULL else value(it)}" for head, value, it in members]) + "}\n"
+        return "".join([f"{head}{'null' if it == NULL else value(it)}" for head, value, it in members]) + "}"
+
+
+class Json(JsonLines):
+    """An array of JSON: an object a row, each on a line of its own. It is written as the rows come; without rows it is `[]`."""
+
+    def header(self) -> None:
+        super().header()
+        self.before = "["
+
+    def page(self, text: str) -> None:
+        self.write(self.before + ",\n".join(map(self.object, text.split("\n"))))
+        self.before = ",\n"
+
+    def end(self) -> None:
+        self.write(f"{'' if self.count else '['}]\n")
 
 
 class Tsv(Writer):
@@ -239,7 +254,7 @@ class Markdown(Writer):
         self.write("".join(self.row(it.split("\t"), self.settings.null) for it in text.split("\n")))
 
     def row(self, fields: list[str], null: str | None) -> str:
-        """A line of the table; `null` is shown for NULL. Of a line of marks, where it is None, nothing is escaped."""
+        """A line of the table; `null` is shown for NULL. Where it is None, for a line of marks, nothing is escaped."""
         cells = fields if null is None else [null if it == NULL and null else markdown_text(unescaped(it)) for it in fields]
         return f"| {' | '.join(cells)} |\n"
 
@@ -273,7 +288,7 @@ def writer(settings: Settings, types: list[str], write: Callable[[str], None]) -
     """What shows an answer by these settings; `types` are those of its columns, as far as they are known."""
     if settings.format == "aligned":
         return (Expanded if settings.is_expanded else Aligned)(settings, types, write)
-    return {"csv": Csv, "json": Json, "jsonl": Json, "tsv": Tsv, "markdown": Markdown}[settings.format](settings, types, write)
+    return {"csv": Csv, "json": Json, "jsonl": JsonLines, "tsv": Tsv, "markdown": Markdown}[settings.format](settings, types, write)
 
 
 def rows_text(names: list[str], rows: list[list[str]]) -> str:

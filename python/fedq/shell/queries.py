@@ -40,7 +40,7 @@ def parted(found: list[Token], mark: str = ",") -> list[list[Token]]:
 
 
 def position(found: list[Token], words: set[str], start: int = 0) -> int:
-    """Where one of these words stands outside parentheses; the end where none does."""
+    """Where one of these words is outside parentheses; the end where none is."""
     for at, (it, depth) in enumerate(with_depth(found)):
         if at >= start and depth == 0 and it.kind == "word" and it.value in words:
             return at
@@ -62,7 +62,7 @@ def entries(found: list[Token]) -> list[tuple[str, str]]:
 
 
 def alias(found: list[Token], at: int) -> str:
-    """The name behind the table at this place, if one stands there."""
+    """The name after the table at this place, if there is one."""
     behind = (found[at + 1:] + [END, END])[:2]
     if behind[0] == ("word", "as"):
         return behind[1].value
@@ -94,7 +94,7 @@ class Types:
         return found
 
     def of_item(self, item: list[Token]) -> list[str] | None:
-        """The types that an item stands for: several for an asterisk; None where a table is not known."""
+        """The types of an item's outputs: several for an asterisk; None where a table is not known."""
         if item[-1:] != [("mark", "*")] or len(item) == 2:
             return [self.of_expression(without_label(item))]
         chosen = [table for name, table in self.entries if len(item) == 1 or name == item[0].value]

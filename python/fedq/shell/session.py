@@ -8,6 +8,7 @@ from ..notes import comment_of, notes_of
 from ..terminal import printable, printable_rows
 from .catalogue import Catalogue, Parser
 from .column_hints import column_hints
+from .elsewhere import know_tables_of, notes_by_rows
 from .engine import Ended, Nobody, Reply
 from .hints import Hints
 from .keeper import OWNER, PERSON, WRITES, Broken, Keeper
@@ -34,14 +35,15 @@ class Settings:
 
 
 class Session:
-    """Asks statements and shows their answers."""
+    """Sends statements and shows their answers."""
 
     def __init__(self, home, words, interrupts, is_person) -> None:
         self.home, self.words, self.interrupts, self.is_person = home, words, interrupts, is_person
         self.settings, self.output, self.output_name = Settings(words), sys.stdout.buffer, ""
         self.is_terminal = sys.stdout.isatty()
         self.catalogue, self.notes = Catalogue(words.sources), []
-        self.hints = Hints(home, self.catalogue, words.user)
+        self.hints = Hints(home, self.catalogue, words.user, bool(words.port))
+        self.looked_at = {}  # the kinds of notes of a table's column, of an engine at a port
         self.last_statement = ""
         self.watcher, self.has_refused = Spinner() if sys.stderr.isatty() else Nobody(), False
         self.keeper = Keeper(home, words, interrupts, self.watcher, self.catalogue, self.tell)
@@ -62,10 +64,10 @@ class Session:
         self.notes += notes_of(text)
         for statement in statements_of(text, ScriptReader()):
             if not self.run_as_owner(statement, name):
-                raise Broken(f"{name} was not run to its end, and no statement behind it")
+                raise Broken(f"{name} was not run to its end, and no statement after it")
 
     def run_as_owner(self, statement: Statement, name: str) -> bool:
-        """Runs one statement of the owner; whether it was done. A refusal is told."""
+        """Runs one statement of the owner; whether it was done. A refusal is printed."""
         if statement.fault:
             self.tell_fault(statement, name)
             return False
@@ -77,7 +79,7 @@ class Session:
         return not reply.code
 
     def run(self, statement: Statement, name: str = "") -> bool:
-        """Asks a statement and shows its answer; whether it was done. `name` is the file that it stands in."""
+        """Sends a statement and shows its answer; whether it was done. `name` is the file that it is from."""
         if statement.fault:
             self.tell_fault(statement, name)
             return False
@@ -95,7 +97,7 @@ class Session:
             self.note_cursor(statement.text, reply)
             self.show_answer(shown, reply)
             self.show_time(seconds)
-            hints = column_hints(statement.text, self.notes)
+            hints = column_hints(statement.text, notes_by_rows(self, statement.text) if self.words.port else self.notes)
             if hints:
                 self.tell(*hints)
         return bool(reply and not reply.code)
@@ -111,7 +113,7 @@ class Session:
             (self.show_here if self.is_person else self.tell)(f"Time: {seconds * 1000:.1f} ms")
 
     def reply_to(self, text: str, shown: Writer) -> Reply | None:
-        """Asks a statement; `shown` takes its rows. Gives the reply, or None where there is none and this was told."""
+        """Sends a statement; `shown` takes its rows. Returns the reply, or None where there is none and this was printed."""
         engine, began = self.keeper.engine, time.monotonic()
         try:
             return engine.ask(PERSON, f"Q {text}", shown.take)
@@ -145,7 +147,7 @@ class Session:
         return types_by_engine(text, self.code_of) or known
 
     def interrupted(self, seconds: float, text: str) -> None:
-        """Ctrl-C came while a statement was asked: reads the rest of its rows where some came, else stops it. A person's engine is begun
+        """Ctrl-C came while a statement ran: reads the rest of its rows where some came, else stops it. A person's engine is begun
         anew."""
         engine = self.keeper.engine
         try:
@@ -162,7 +164,7 @@ class Session:
                 self.tell(f"the stopped statement has left {path}: remove it")
 
     def ended(self, end: Ended) -> None:
-        """The engine ended by itself while a statement was asked. A person's is begun anew."""
+        """The engine ended by itself while a statement ran. A person's is begun anew."""
         if not self.is_person:
             raise end
         self.tell("the connection ended" if self.words.port else f"the program ended by signal {-end.status}" if end.status < 0 else
@@ -225,18 +227,19 @@ class Session:
         sys.stderr.buffer.flush()
 
     def tell_fault(self, statement: Statement, name: str) -> None:
-        """Says why a statement cannot be asked."""
+        """Says why a statement cannot be sent."""
         self.has_refused = True
         self.tell(f"{self.place(statement, name)}ERROR: {statement.fault}")
 
     def tell_refusal(self, reply: Reply, statement: Statement, name: str, shows_text: bool = False) -> None:
-        """Tells why a statement was refused, and what may help."""
+        """Prints why a statement was refused, and what may help."""
         self.has_refused = True
         lines = [f"{self.place(statement, name)}ERROR {reply.code}: {reply.name.replace('_', ' ')}"]
         lines += [f"  {statement.text}"] if shows_text else []
         sentence = self.hints.sentence(reply.code)
         lines += [f"  {sentence}"] if sentence else []
         try:
+            self.hints.lists_tables = not self.words.port or know_tables_of(self, statement.text)
             with self.interrupts.allowed():
                 lines += [f"  {it}" for it in self.hints.lines(reply.code, statement.text)]
         finally:

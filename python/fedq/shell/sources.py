@@ -29,12 +29,12 @@ def are_to_be_looked_at(words: Words, is_person: bool, interrupts: Interrupts) -
     if words.inits or words.makes_no_tables or words.port or all(kind == "list" for kind, _, _ in words.sources):
         return False
     if not all(name and path or kind == "list" for kind, name, path in words.sources):
-        return False  # (the program says what is wrong with such words)
+        return False  # (the program says what is wrong with such arguments)
     return is_person or not makes_objects(first_text(words, interrupts))
 
 
 def first_text(words: Words, interrupts: Interrupts) -> str:
-    """The text in which the first statement stands: of -c, of -f, or what standard input begins with, which stays there."""
+    """The text that has the first statement: of -c, of -f, or what standard input begins with, which stays there."""
     if words.inputs:
         option, text = words.inputs[0]
         return text if option == "-c" else f"\\i {text}"

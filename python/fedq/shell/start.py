@@ -1,4 +1,4 @@
-"""From the words to the end of the shell."""
+"""From the arguments to the end of the shell."""
 from __future__ import annotations
 
 import os, shutil, subprocess, sys
@@ -23,11 +23,11 @@ REFUSED, INTERRUPTED = 1, 130
 
 
 def main(home: str, given: list[str]) -> int:
-    """Runs the shell, and gives its status."""
+    """Runs the shell, and returns its status."""
     try:
         words = read(given)
     except BadWords as fault:
-        return fail(f"{fault}; fedq-shell --help has the words", 2)
+        return fail(f"{fault}; fedq-shell --help has the arguments", 2)
     if words.asks_help:
         print(USAGE, end="")
         return 0
@@ -38,7 +38,7 @@ def main(home: str, given: list[str]) -> int:
 
 
 def fail(text: object, status: int) -> int:
-    """Prints why the shell ends, and gives this status."""
+    """Prints why the shell ends, and returns this status."""
     sys.stdout.flush()
     print(f"fedq-shell: {printable(str(text))}", file=sys.stderr)
     return status
@@ -52,7 +52,7 @@ class Shell:
         self.is_person = not words.inputs and sys.stdin.isatty()
 
     def run(self) -> int:
-        """Begins, runs what is given or typed, and ends; gives the status. Whatever happens, the program that was started is ended."""
+        """Begins, runs what is given or typed, and ends; returns the status. Whatever happens, the program that was started is ended."""
         try:
             status = self.run_session()
         except KeyboardInterrupt:

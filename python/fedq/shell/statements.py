@@ -8,18 +8,18 @@ from .. import sql
 
 LONGEST = 1_048_500  # of a statement, in bytes: a request line has 1,048,576
 PIECE = re.compile(r"""'[^']*'?|"[^"]*"?|--.*|;|[^'";-]+|-""", re.S)
-# Words that begin a statement, and stand nowhere else in one.
+# Words that begin a statement, and are nowhere else in one.
 BEGINS = re.compile(r"\s*(create|drop|insert|update|delete|declare|fetch)\b", re.I)
 BEFORE_SELECT = re.compile(r"\s*(insert|declare)\b(?!.*\bselect\b)", re.I | re.S)
 
-# A statement's text, the line in which it begins, and what is wrong with it before it is asked (or nothing).
+# A statement's text, the line in which it begins, and what is wrong with it before it is sent (or nothing).
 Statement = namedtuple("Statement", "text line fault")
 # Its kind is `word` (its value in lower case), `quoted`, `text` (their values without quotes), `number`, `parameter` or `mark`.
 Token = namedtuple("Token", "kind value")
 
 
 def fault_of(text: str, is_broken: bool) -> str:
-    """Why a statement cannot be asked; nothing where it can."""
+    """Why a statement cannot be sent; nothing where it can."""
     if is_broken:
         return "a text or name in quotes cannot go over a line end"
     try:
@@ -64,7 +64,7 @@ class Reader:
         return found
 
     def take(self, line: str, number: int = 0) -> list[Statement]:
-        """The statements that end in this line, whose number is told."""
+        """The statements that end in this line, whose number is given."""
         found, at = [], 0
         if self.quote:
             at = line.find(self.quote) + 1
@@ -92,7 +92,7 @@ class Reader:
             self.quote = piece[0]
 
     def rest(self) -> list[Statement]:
-        """What stands behind the last semicolon, as a list of one statement or none."""
+        """What comes after the last semicolon, as a list of one statement or none."""
         if self.quote:
             statement = Statement("", self.line, "a quote is not closed")
             self.drop()
@@ -124,7 +124,7 @@ def statements_of(text: str, reader: Reader | None = None) -> list[Statement]:
 
 
 def tokens(text: str) -> list[Token]:
-    """The tokens of a statement, comments left out; none where it is no SQL that can be asked, as where a comment is not closed."""
+    """The tokens of a statement, comments left out; none where it is no SQL that can be sent, as where a comment is not closed."""
     try:
         return [Token(it.kind, it.value) for it in sql.tokens(text)]
     except sql.Unsayable:

@@ -21,7 +21,7 @@ WORD = re.compile(f"[^{re.escape(DELIMITERS)}]*$")
 
 
 class Ways(Completes):
-    """The shell's ways to go on, as prompt_toolkit asks for them."""
+    """The shell's ways to go on, in the form that prompt_toolkit takes."""
 
     def __init__(self, completer: Completer, begun: Callable[[], str]) -> None:
         self.completer, self.begun = completer, begun
@@ -38,7 +38,7 @@ class Ways(Completes):
 
 
 class Remembered(Remembers):
-    """The shell's history, as prompt_toolkit asks for it."""
+    """The shell's history, in the form that prompt_toolkit takes."""
 
     def __init__(self, history: History) -> None:
         super().__init__()

@@ -5,13 +5,13 @@ from collections.abc import Callable
 
 from .. import sql
 
-MOST_COLUMNS = 64  # of an answer that is asked for
+MOST_COLUMNS = 64  # of an answer
 OTHER_COUNT, NO_OTHER_FAULT = "42601", "54000"
 
 
 def types_by_engine(text: str, code_of: Callable[[str], str]) -> list[str]:
-    """The types of the query's columns; none where the text is no query that the engine takes. `code_of` gives the code with which the
-    engine refuses a statement: it judges what is asked here and runs none of it."""
+    """The types of the query's columns; none where the text is no query that the engine takes. `code_of` returns the code with which the
+    engine refuses a statement: it judges these requests and runs none of them."""
     try:
         (found, ) = sql.statements(text)
         if found[0].value != "select":

@@ -1,10 +1,10 @@
-"""The words with which the shell was started: its own, and those that go to `fedq run`."""
+"""The arguments with which the shell was started: its own, and those that go to `fedq run`."""
 from __future__ import annotations
 
 import os
 from collections.abc import Iterator
 
-# How rows are shown; `jsonl` is another name of `json`, which is an object a line too.
+# How rows are shown.
 FORMATS = ("aligned", "csv", "json", "jsonl", "tsv", "markdown")
 ENDINGS = {".csv": "csv", ".tsv": "tsv", ".json": "json", ".jsonl": "jsonl", ".md": "markdown"}  # (of a file to which rows are written)
 OTHER_FORMATS = set("table text tab md html latex xml yaml ndjson excel xlsx parquet arrow unaligned".split())  # (of other tools)
@@ -26,27 +26,28 @@ Its own:
       --connect PORT    speaks to an engine that `fedq serve --port PORT` serves, in place of one of its own
       --save FILE       writes what made the tables to FILE, for the next --init FILE
       --no-setup        makes no tables; so it is too where the statements begin with CREATE or DROP
-  -o, --format FORMAT   aligned (by default), csv, tsv, markdown, json or jsonl (both: one object a line)
+  -o, --format FORMAT   aligned (by default), csv, tsv, markdown, json (an array of objects),
+                        or jsonl (one object a line)
   -x, --expanded        one line for each field of a row
-      --null TEXT       what stands for NULL in tables, by default \u2205
+      --null TEXT       what is shown for NULL in tables, by default \u2205
   -o, --output FILE     writes rows to FILE, without a format as its name ends (.csv, .json ..);
                         `-o csv` is a format, `-o ./csv` a file
   -V, --version         the version of fedq
   -h, --help            this text
 
-At its prompt \\? tells its commands. Its status is 1 where a statement of -c, -f or standard input was refused.
+At its prompt \\? lists its commands. Its status is 1 where a statement of -c, -f or standard input was refused.
 FEDQ_PROGRAM names another program than ./fedq, FEDQ_HISTORY another file than ~/.fedq_history, PAGER what shows long tables,
 EDITOR what \\e starts, FEDQ_LINES what reads lines: prompt_toolkit where it is installed, else readline; or plain.
 """
 
 
 class BadWords(Exception):
-    """The words are wrong; the text says which."""
+    """The arguments are wrong; the text says which."""
 
 
 class Words:
-    """What the words say. Of `sources` each is (kind, name, path), and of `inputs` ("-c", SQL) or ("-f", FILE). `files` has of a source
-    that is one file of its folder the name of this file."""
+    """What the arguments say. Each of `sources` is (kind, name, path), each of `inputs` ("-c", SQL) or ("-f", FILE). Where a source is one file
+    of its folder `files` has the name of this file."""
     owner, user, output, port, format, null, save = "admin", "", "", 0, "", "\u2205", ""
     is_expanded = stops = asks_help = asks_version = makes_no_tables = False
 
@@ -54,7 +55,7 @@ class Words:
         self.program_words, self.sources, self.inits, self.inputs, self.files = [], [], [], [], {}
 
     def leave_out(self, databases: set[str]) -> None:
-        """Leaves these databases out of the sources and of the words for the program, so that it does not open them."""
+        """Leaves these databases out of the sources and of the arguments for the program, so that it does not open them."""
         words, kept = iter(self.program_words), []
         for word in words:
             value = next(words) if word in TAKES_VALUE else None
@@ -124,7 +125,7 @@ def take(words: Words, option: str, value: str | None) -> None:
 
 
 def for_program(words: Words, option: str, value: str | None) -> None:
-    """Takes an option of `fedq run`, or one that nobody knows, of which the program is to say so."""
+    """Takes an option of `fedq run`, or one that nobody knows: the program is to say so."""
     if option == "--owner":
         words.owner = value
     elif option in SOURCES:
@@ -138,7 +139,7 @@ def for_program(words: Words, option: str, value: str | None) -> None:
 
 
 def read(given: list[str]) -> Words:
-    """What these words say; raises BadWords."""
+    """What these arguments say; raises BadWords."""
     words = Words()
     for option, value in options(given):
         take(words, option, value)
