@@ -1,7 +1,7 @@
 //! Shapes of the tables of a database, by texts that are built and by texts that are given.
 use crate::looks::database;
 use sqlite::{Connection, MemStore};
-use sqlite_looks::{ReadOnly, Shape, Texts, look_at, shape_at};
+use sqlite_looks::{ReadOnly, Shape, Texts, look_at, shape_at, shape_called, table_called};
 use std::alloc::{AllocError, Global};
 use std::test::Fail;
 
@@ -74,6 +74,44 @@ fn some_tables_have_no_shape(rt: HostRuntime) -> Result<(), Fail> {
     assert_eq!(rt; shape_at(alloc, conn.schema(), 99, &[])?.is_none(), true);
     assert_eq!(rt; shape_at(alloc, conn.schema(), 2, &[2])?.is_none(), true);
     assert_eq!(rt; shape_at(alloc, conn.schema(), 2, &[])?.is_some(), true);
+    Ok(())
+}
+
+// Whether a table has this stored name; and where it can be read whole, how many places a page shows of it, and by which text.
+fn page_called(
+    alloc: Global,
+    conn: &Connection<MemStore>,
+    name: &str,
+) -> Result<String, AllocError> {
+    let place = table_called(conn.schema(), name.as_bytes());
+    match shape_called(alloc, conn.schema(), name.as_bytes())? {
+        Some(shape) => {
+            let page = shape.texts.page.as_str();
+            format!(in alloc; "{} {}: {page}", place.is_some(), shape.places.len())
+        }
+        None => format!(in alloc; "{}", place.is_some()),
+    }
+}
+
+#[test]
+fn tables_are_found_by_their_stored_names(rt: HostRuntime) -> Result<(), Fail> {
+    let alloc = rt.alloc();
+    let conn = database(alloc)?;
+    for (name, wanted) in [
+        (
+            "a \"b\"",
+            "true 4: SELECT rowid, \"order\", \"x\"\"y\", \"z\" FROM \"a \"\"b\"\"\" \
+             WHERE rowid >= ?1 AND rowid <= ?2 ORDER BY rowid LIMIT 64",
+        ),
+        (
+            "child",
+            "true 3: SELECT rowid, \"id\", \"item\" FROM \"child\" WHERE rowid >= ?1 AND rowid <= ?2 ORDER BY rowid LIMIT 64",
+        ),
+        ("taken", "true"),
+        ("Child", "false"),
+    ] {
+        assert_eq!(rt; page_called(alloc, &conn, name)?.as_str(), wanted);
+    }
     Ok(())
 }
 
