@@ -161,8 +161,8 @@ def months(columns: List[Cells], taken: Set[str], report: Report) -> List[Cells]
 
 
 def improved(columns: List[Cells], report: Report, has_nulls: bool = True) -> List[Cells]:
-    """What a copy makes of columns: whole numbers of decimals and of numbers with a unit, months beside dates; and, with `has_nulls`, NULL for the texts that mean
-    it among numbers, truth values and dates."""
+    """What a copy makes of columns: whole numbers of decimals and of numbers with a unit, months beside dates; and, with `has_nulls`, NULL
+    for the texts that mean it among numbers, truth values and dates."""
     taken = {it.name for it in columns}
     for it in columns:
         if it.kind == "text" and has_nulls:

@@ -21,8 +21,8 @@ source for reading alone; --write-acl binds them for writing all the same.
 
 --copy FOLDER makes plain copies of the sources in FOLDER, those anew whose source was changed since, and binds the copies: CSV with commas
 in UTF-8, a JSON object a line with members a_b for objects, whole numbers for decimals (price_x100) and for numbers with a unit (way_km),
-a month beside a date, and tables of databases that cannot be bound. FOLDER/fedq-copies.json says what was done. The sources stay as they are. Prints the arguments to start with;
-the init file is written where --out is given.
+a month beside a date, and tables of databases that cannot be bound. FOLDER/fedq-copies.json says what was done. The sources stay as they
+are. Prints the arguments to start with; the init file is written where --out is given.
 
 --check prints on standard output why a CREATE FOREIGN TABLE over FILE is refused, a line for each fault, and ends with 1 where
 there is one. For a database FOLDER is the database, and FILE its table."""

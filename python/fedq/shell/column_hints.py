@@ -9,6 +9,7 @@ from ..notes import ColumnNote
 from .queries import CONDITIONS, END, ENDS_FROM, entries, is_name, parted, position, with_depth, without_label
 from .statements import Token, tokens
 
+MOST_READ = 20000  # characters of a statement that is looked through
 BEGINS_CLAUSE = ENDS_FROM | {"from", "select", "union"}
 READERS = {"select", "declare", "insert", "update", "delete"}
 ORDERS = {"<", "<=", ">", ">=", "between"}
@@ -49,9 +50,14 @@ def said_of(note: ColumnNote) -> str:
 
 def matching(text: str, notes: Iterable[ColumnNote]) -> list[ColumnNote]:
     """The notes that matter to what a statement does with their columns."""
-    found = tokens(text) if notes and len(text) <= 20000 else []
-    is_read = bool(found) and found[0].kind == "word" and found[0].value in READERS
-    return list(matching_tokens(found, notes)) if is_read else []
+    found = read_tokens(text) if notes else []
+    return list(matching_tokens(found, notes)) if found else []
+
+
+def read_tokens(text: str) -> list[Token]:
+    """The tokens of a statement that reads rows; none of another, and none of a long one."""
+    found = tokens(text) if len(text) <= MOST_READ else []
+    return found if found and found[0].kind == "word" and found[0].value in READERS else []
 
 
 def matching_tokens(found: list[Token], notes: Iterable[ColumnNote]) -> Iterator[ColumnNote]:

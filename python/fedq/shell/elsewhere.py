@@ -5,7 +5,7 @@ from __future__ import annotations
 from ..lines import unescaped
 from ..names import quoted_name
 from ..notes import KINDS, ColumnNote
-from .column_hints import noted_columns
+from .column_hints import MOST_READ, noted_columns, read_tokens
 from .output import Rows
 from .queries import entries
 from .statements import tokens
@@ -15,7 +15,6 @@ if False:  # (for the types alone)
     from .catalogue import Object
     from .session import Session
 
-MOST_READ = 20000  # characters of a statement that is looked through
 MOST_LOOKED_AT = 1000  # rows of a table by which its columns are judged
 
 # What a gateway answers at its port for lines, and `fedq serve` refuses.
@@ -52,7 +51,7 @@ def know_tables_of(session: Session, text: str) -> bool:
     """Requests the tables that a statement names, or all of a gateway. Returns whether all are known then."""
     if know_tables(session):
         return True
-    for _, name in entries(tokens(text)) if len(text) < MOST_READ else ():
+    for _, name in entries(tokens(text)) if len(text) <= MOST_READ else ():
         asked_table(session, name)
     return False
 
@@ -60,9 +59,7 @@ def know_tables_of(session: Session, text: str) -> bool:
 def notes_by_rows(session: Session, text: str) -> list[ColumnNote]:
     """The notes on the columns that a statement orders, compares, groups by or counts, as fedq-setup would write them by the first rows of
     each. What was looked at once is not looked at again."""
-    names = {table for _, table in entries(tokens(text))} if len(text) < MOST_READ else set()
-    if not names:
-        return []
+    names = {table for _, table in entries(read_tokens(text))}
     if names - set(session.catalogue.tables):
         know_tables_of(session, text)
     tables = session.catalogue.tables

@@ -1,4 +1,5 @@
-"""How rows are shown: as aligned tables, one field a line, CSV, lines with TABs, tables of Markdown, an array of JSON objects, or JSON lines."""
+"""How rows are shown: as aligned tables, one field a line, CSV, lines with TABs, tables of Markdown, an array of JSON objects, or JSON
+lines."""
 from __future__ import annotations
 
 import re, unicodedata
@@ -187,7 +188,8 @@ class Csv(Writer):
 
 
 class JsonLines(Writer):
-    """JSON lines: an object a row, on a line of its own. Whole numbers and booleans are so where the shell knows the column's type, and else texts."""
+    """JSON lines: an object a row, on a line of its own. Whole numbers and booleans are so where the shell knows the column's type, and
+    else texts."""
 
     def header(self) -> None:
         values = {"integer": str, "boolean": {"t": "true", "f": "false"}.get}

@@ -95,6 +95,8 @@ class Session:
             seconds = time.monotonic() - began
             self.keeper.note(PERSON, statement.text, reply)
             self.note_cursor(statement.text, reply)
+            if reply.tag.startswith(("CREATE", "DROP")):
+                self.looked_at.clear()
             self.show_answer(shown, reply)
             self.show_time(seconds)
             hints = column_hints(statement.text, notes_by_rows(self, statement.text) if self.words.port else self.notes)
