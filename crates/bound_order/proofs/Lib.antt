@@ -1,2 +1,5 @@
 pub mod Blocks
 pub mod Placed
+pub mod Kept
+pub mod Compared
+pub mod Turned
