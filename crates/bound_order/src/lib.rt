@@ -5,4 +5,4 @@
 pub mod law;
 pub mod ordering;
 
-//pub use ordering::ordered;
+pub use ordering::ordered;

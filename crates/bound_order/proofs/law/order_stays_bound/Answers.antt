@@ -1,6 +1,5 @@
-use Rattle.bound_order.proofs.Placed.{order_below, total_kept}
-use Rattle.bound_order.proofs.Blocks.{all_placed, order_tables}
+use Rattle.bound_order.proofs.Stays.{stays_bound}
 use Rattle.bound_order.proofs.law.order_stays_bound.Goals as goal
 
 pub returns : goal.returns
-returns c = ?
+returns c = stays_bound
