@@ -80,7 +80,8 @@ pub fn open_database<V: Databases>(rt: &V, path: &str) -> Result<Opened<V::Store
     ensures there { V.Store.SourceStore.honest ≡ true
         → IfOk result (λ o. IsFoundAt (V.stands rt.now) path.now (state V.Store.Store o.conn).now) }
     ensures known { (table : ℕ) → V.Store.SourceStore.honest ≡ true → IfOk result (λ o. ∥ IsKnown o.conn.schema (layout_at table) ∥₁) }
-    ensures writable { (table : ℕ) → V.Store.SourceStore.honest ≡ true → IfOk result (λ o. ∥ IsWritable o.conn.schema (layout_at table) ∥₁) }
+    ensures writable { (table : ℕ) → V.Store.SourceStore.honest ≡ true
+        → IfOk result (λ o. ∥ IsWritable o.conn.schema (layout_at table) ∥₁) }
     ensures apart { V.Store.SourceStore.honest ≡ true → IfOk result (λ o. AreApart o.conn.schema) }
     ensures idle { IfOk result (λ o. o.conn.in_transaction ≡ false) }
     ensures err { IfErr result (V.refuses rt.now path.now) }
