@@ -23,7 +23,7 @@ pub record GoesOn (old new : State) : Type 0 where
   pub faults : old.faults ≤ new.faults
   pub limit : new.step_limit ≡ old.step_limit
 
--- a state inside the transaction of a rewrite: the rows of these keys are out and these rows are in, no key of which was taken
+-- a state inside the transaction of a rewrite: the rows of these keys are out and these rows are in, whose keys were free
 pub record Reaches (old mid : State) (l : Layout) (gone : List ℤ) (fresh : List Tuple) : Type 0 where
   pub clean : IsCleanAfter mid
   pub inside : IsTrue mid.in_transaction

@@ -26,7 +26,7 @@ stored (Logic b) = sql.Int (if b then pos 1 else pos 0)
 abbrev pub is_placed : List ColType → Tuple → Bool
 is_placed kinds cells = row_fits kinds cells && not (is_missing (cell cells 0))
 
--- the parameters of an INSERT: the cells of the row in their order, of which the first is the key
+-- the parameters of an INSERT: the cells of the row in their order; the first is the key
 abbrev pub inserted_cells : Tuple → SqlRow
 inserted_cells cells = map stored cells
 

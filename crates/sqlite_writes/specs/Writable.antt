@@ -7,9 +7,8 @@ use Rattle.sqlite.specs.State.{State}
 use Rattle.sqlite.specs.View.{IsShaped}
 use Rattle.sqlite_trees.specs.declared.store.Shape.TheVariants as shape
 use Rattle.sqlite_tables.specs.Layouts.{column_at}
-use Rattle.sqlite_tables.specs.Prelude.{
-  AreTexts, IsCleanAfter, IsKnown, IsUnread, Layout, ShowsAgain, entries_of, further_columns, layout_at, layout_count, tree_of,
-}
+use Rattle.sqlite_tables.specs.Prelude.{AreTexts, IsCleanAfter, IsKnown, IsUnread, Layout, ShowsAgain, entries_of, further_columns}
+use Rattle.sqlite_tables.specs.Prelude.{layout_at, layout_count, tree_of}
 use Rattle.sqlite_writes.specs.Stored.{column_limit}
 
 -- rows of the layout can be written: its first column is the key, and no other is; what an INSERT stores for a column is what a page shows

@@ -158,10 +158,10 @@ fn change_rows<S: SourceStore>(
 
 /// Changes the rows of a table as one transaction: those of some keys are taken out, then these rows are put in, each in its place by key.
 ///
-/// Each new row is of the table's types and has a key. No key is then there twice. Refused, the rows are as they were. Fails with 23505
-/// alone where a key of a new row is there twice among them or is that of a row that stays. Each failure is that of an error that the
+/// Each new row is of the table's types and has a key. No key is then there twice. Where it fails, the rows are as they were. Refused by
+/// 23505 alone, where two new rows have one key or a new row has the key of a row that stays. Each failure is that of an error that the
 /// connection reported of one of its statements (`FailsToRewrite`): the source only where that error is neither a repeated key of an INSERT
-/// nor out of memory. No transaction is under way after it. It is so over a store that always returns what was written, and of each call
+/// nor out of memory. No transaction is under way after it. This holds over a store that always returns what was written, and of each call
 /// by itself that is sure (`IsSureWrite`).
 pub fn rewrite<S: SourceStore>(
     conn: &mut Connection<S>,
@@ -217,7 +217,7 @@ pub fn rewrite<S: SourceStore>(
     }
 }
 
-/// The entries of a table stand in the order of their keys, where its store always returns what was written.
+/// The entries of a table are in the order of their keys, where its store always returns what was written.
 pub fn entries_rise<S: SourceStore>(conn: &Connection<S>, shape: &Shape)
     requires writable { S.honest ≡ true → ∥ IsWritable conn.now.schema shape.now ∥₁ }
     ensures { S.honest ≡ true → IsShaped stored.Table (entries_of (state S.Store conn.now).now shape.now) }

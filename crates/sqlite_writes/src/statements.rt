@@ -96,9 +96,9 @@ fn execute_narrow<S: SourceStore>(
         (state S.Store tx.old.conn.now) (state S.Store tx.new.conn.now) result }
     ensures survives { Survives (state S.Store tx.old.conn.now) (state S.Store tx.new.conn.now) (λ _. ⊥) }
 {
-    let mut cells = [ValueRef::Null; 16];
-    fill(&mut cells, row);
-    tx.execute(text, &cells[..row.cells.len()])
+    let mut narrow = [ValueRef::Null; 16];
+    fill(&mut narrow, row);
+    tx.execute(text, &narrow[..row.cells.len()])
 }
 
 // Runs a text whose parameters are the cells of a row of as many columns as a table has at most. It holds them on the stack, in 48 KB.
@@ -116,9 +116,9 @@ fn execute_wide<S: SourceStore>(
         (state S.Store tx.old.conn.now) (state S.Store tx.new.conn.now) result }
     ensures survives { Survives (state S.Store tx.old.conn.now) (state S.Store tx.new.conn.now) (λ _. ⊥) }
 {
-    let mut cells = [ValueRef::Null; 2000];
-    fill(&mut cells, row);
-    tx.execute(text, &cells[..row.cells.len()])
+    let mut wide = [ValueRef::Null; 2000];
+    fill(&mut wide, row);
+    tx.execute(text, &wide[..row.cells.len()])
 }
 
 // Runs a text whose parameters are the cells of a row. It allocates nothing beside what the statement does.

@@ -6,4 +6,5 @@ pub returns-in-Some-Int-clause-holdable : goal.returns-in-Some-Int-clause-holdab
 returns-in-Some-Int-clause-holdable c e =
     let cells = c.args.row.now.cells.items in
     let k = c.in-Some-Int.key in
-    holdable_row cells k (first_key cells c.deref.result.now c.in-Some-Int.field-0.now k c.in-Some-Int.ensures.value c.deref.ensures.value c.in-Some-Int.field-0-is) (search rules)
+    holdable_row cells k (first_key cells c.deref.result.now c.in-Some-Int.field-0.now k c.in-Some-Int.ensures.value c.deref.ensures.value
+    c.in-Some-Int.field-0-is) (search rules)
