@@ -130,17 +130,19 @@ upward : (cs : List PageColumn) (next : ℕ) (before after : SqlRow) → length 
     → map (column (before ++ after)) (parameters_from next (filter not_key cs)) ≡ after
 upward [] next before [] is all = refl
 upward [] next before (v ∷ after) is all = absurd (let e = all in omega (arith, e))
-upward (c ∷ cs) next before after is all = go (is_key c) refl after all
+upward (c ∷ cs) next before after is all = go (upward cs) (is_key c) refl after all
   where
-    go : (b : Bool) → is_key c ≡ b → (after : SqlRow) → length (cond (not b) (c ∷ filter not_key cs) (filter not_key cs)) ≡ length after
+    go : ((from : ℕ) (first last : SqlRow) → length first ≡ from → length (filter not_key cs) ≡ length last
+        → map (column (first ++ last)) (parameters_from from (filter not_key cs)) ≡ last)
+        → (b : Bool) → is_key c ≡ b → (after : SqlRow) → length (cond (not b) (c ∷ filter not_key cs) (filter not_key cs)) ≡ length after
         → map (column (before ++ after)) (parameters_from next (cond (not b) (c ∷ filter not_key cs) (filter not_key cs))) ≡ after
-    go true e after all = upward cs next before after is all
-    go false e [] all = absurd (let n = all in omega (arith, n))
-    go false e (v ∷ after) all =
+    go further true e after all = further next before after is all
+    go further false e [] all = absurd (let n = all in omega (arith, n))
+    go further false e (v ∷ after) all =
         let here : column (before ++ v ∷ after) next ≡ v = ap (column (before ++ v ∷ after)) (sym is) ∙ at_end before v after in
         let wider : length (before ++ v ∷ []) ≡ next + 1 = let n = length-append before (v ∷ []) in omega (arith, n, is) in
         let rest : length (filter not_key cs) ≡ length after = let n = all in omega (arith, n) in
-        let more = upward cs (next + 1) (before ++ v ∷ []) after wider rest in
+        let more = further (next + 1) (before ++ v ∷ []) after wider rest in
         ap (λ (b : Bool). map (column (before ++ v ∷ after))
         (if b then 0 ∷ parameters_from next (filter not_key cs) else next ∷ parameters_from (next + 1) (filter not_key cs))) e
         ∙ ap₂ ◌∷◌ here (ap (λ (r : SqlRow). map (column r) (parameters_from (next + 1) (filter not_key cs)))

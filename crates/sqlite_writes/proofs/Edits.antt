@@ -21,7 +21,7 @@ use Rattle.sqlite_trees.specs.declared.store.Shape.TheVariants as shape
 use Rattle.sqlite_trees.proofs.ListLemmas.{all-filter, ascending-filter, IsPermutation-filter}
 use Rattle.sqlite_trees.proofs.TreeLemmas.{all-put_row, IsTable-put_row}
 use Rattle.sqlite_value.proofs.OrderLemmas.{value_cmp-Int}
-use Rattle.sqlite_tables.specs.StoreShapes.{key_of}
+use Rattle.sqlite_tables.specs.Prelude.{key_of}
 use Rattle.sqlite_tables.proofs.PagesJoin.{Ints}
 use Rattle.med_value.specs.Datum.{Datum, Whole}
 use Rattle.sqlite_writes.specs.Kinds.{repeats}

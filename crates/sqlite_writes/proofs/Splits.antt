@@ -42,6 +42,15 @@ first_key cells (w ∷ ws) v k is same int =
     let here : w ≡ Int k = cc in
     ap (λ (vs : List Value). cell (map datum vs) 0) (sym same) ∙ ap datum here
 
+-- a row of which the first cell is a key or is NULL
+pub holdable_first : (cells slice : List Value) (v : Value) → Some v ≡ slice_get slice 0 → slice ≡ cells → is_key (datum v) ≡ true
+    → is_holdable (map datum cells) ≡ true
+holdable_first cells [] v is same key = absurd cc
+holdable_first cells (w ∷ ws) v is same key =
+    let here : v ≡ w = cc in
+    let first : cell (map datum cells) 0 ≡ datum v = ap (λ (vs : List Value). cell (map datum vs) 0) (sym same) ∙ ap datum (sym here) in
+    and_from _ _ (ap is_key first ∙ key) (readable cells)
+
 -- ---- the loop
 
 pub gone_on : (done more : List ℤ) (c : Change) (cs ds : List Change) (all : List ℤ) → done ++ keys_gone cs ≡ all → cs ≡ c ∷ ds

@@ -34,7 +34,8 @@ fn has_key(row: &Row) -> bool
             let _key: i64 = *key;
             true
         }
-        Some(_) => true,
+        Some(Value::Text(_text)) => true,
+        Some(Value::Bool(_truth)) => true,
     }
 }
 
