@@ -2,6 +2,8 @@ pub mod Steps
 pub mod Kept
 pub mod Deleting
 pub mod Inserting
+pub mod Filling
+pub mod Written
 pub mod Changed
 pub mod Loops
 pub mod Reaching

@@ -1,5 +1,6 @@
 -- What the texts that make the tables do to a database.
-use Rattle.std.proofs.Common.{◌≡◌, ◌⊎◌, ◌<◌, inl, inr, ℕ, zero, suc, [], ◌∷◌, true, false, Option, Some, None, option_map, map, Ok, Err, Result, OnOk, refl, sym, ap, subst, ◌∙◌, codes, arith, List}
+use Rattle.std.proofs.Common.{◌≡◌, ◌⊎◌, ◌<◌, inl, inr, ℕ, zero, suc, [], ◌∷◌, true, false, Option, Some, None, option_map, map, Ok, Err}
+use Rattle.std.proofs.Common.{Result, OnOk, refl, sym, ap, subst, ◌∙◌, codes, arith, List}
 use Rattle.sqlite.specs.Schema.{Schema}
 use Rattle.sqlite_schema.specs.Names.{same_name}
 use Rattle.sqlite.specs.Command.TheVariants.{CreateTable}
@@ -12,13 +13,15 @@ use Rattle.sqlite.specs.Listing.{understood}
 use Rattle.sqlite.specs.Effect.{Database}
 use Rattle.sqlite.specs.State.{State, Writes, Executes}
 use Rattle.sqlite.proofs.Callers.{IsPlain, command_of, statement_of, runs_as}
-use Rattle.sqlite_tables.specs.Prelude.{IsPageText, Layout, kinds_in, layout_at, layout_count, orders, people, rows_in, is_of_shape, IsKnown, tree_of, tree_found, entry_of, IsTableAt, IsDeleteText, IsInsertText, AreTexts, orders_table, people_table}
+use Rattle.sqlite_tables.specs.Prelude.{AreTexts, IsDeleteFrom, IsInsertInto, IsKnown, IsPageOf, IsTableAt, Layout, entry_of}
+use Rattle.sqlite_tables.specs.Prelude.{further_kinds, is_of_shape, kinds_in, layout_at, layout_count, orders, orders_table, people}
+use Rattle.sqlite_tables.specs.Prelude.{people_table, places, rows_in, tree_found, tree_of}
 use Rattle.fdw_api.specs.Prelude.{TableRow, Entry, Stored}
 use Rattle.sqlite_trees.specs.Tree.{Trees}
 use Rattle.sqlite_tables.proofs.Settled.{tree_is}
 use Rattle.sqlite_writes.specs.Writable.{AreApart, IsWritable}
-use Rattle.med_value.specs.declared.value.ColType.TheVariants as types
 use Rattle.sqlite_writes.specs.Made.{no_tables, orders_alone, both_tables}
+use Rattle.sqlite_writes.proofs.Written.{written_at}
 
 abbrev pub orders_text : List ℕ
 orders_text = codes "CREATE TABLE orders (id INTEGER PRIMARY KEY, part INTEGER, n INTEGER)"
@@ -56,7 +59,8 @@ pub made_orders : (old new : State) (r : Result ℕ Error) → old.now.schema �
     → OnOk r (new.now.schema ≡ orders_alone) × OnOk r (new.now.trees 0 ≡ []) × OnOk r (new.in_transaction ≡ old.in_transaction)
 made_orders old new (Err e) has h = (tt, tt, tt)
 made_orders old new (Ok count) has h =
-    let w = subst (λ t. Writes old new None CreateTable t [] count) orders_is.1 (runs_as orders_text [] old new no_tables has CreateTable orders_is.0 orders_plain count h) in
+    let w = subst (λ t. Writes old new None CreateTable t [] count) orders_is.1
+    (runs_as orders_text [] old new no_tables has CreateTable orders_is.0 orders_plain count h) in
     let all = went w.changed in
     let first = went all.1 in
     let made = first.1 in
@@ -64,15 +68,20 @@ made_orders old new (Ok count) has h =
     let same : made.table ≡ orders_table 0 = cc in
     let schema : first.0.schema ≡ orders_alone = made.is ∙ ap (λ s. created s made.table) has ∙ ap (created no_tables) same in
     let plain : lacks_sequence first.0.schema ≡ false = ap lacks_sequence schema in
-    let now : new.now ≡ first.0 = ap (λ (p : Tally × Database). p.1) (same_value all.2) ∙ same_value (rw plain at first.2) in
-    (ap (λ (d : Database). d.schema) now ∙ schema, ap (λ (d : Database). d.trees 0) now ∙ subst (λ s. first.0.trees (next_tree s) ≡ []) has made.empty, w.shown.mode)
+    let now : new.now ≡ first.0 = ap (λ (p : Tally × Database). p.1) (same_value all.2) ∙ same_value (rw plain at first.2) in (
+      ap (λ (d : Database). d.schema) now ∙ schema,
+      ap (λ (d : Database). d.trees 0) now
+          ∙ subst (λ s. first.0.trees (next_tree s) ≡ []) has made.empty,
+      w.shown.mode,
+    )
 
 pub made_people : (old new : State) (r : Result ℕ Error) → old.now.schema ≡ orders_alone → Executes people_text [] old new r
     → OnOk r (new.now.schema ≡ both_tables) × OnOk r (new.now.trees 1 ≡ []) × OnOk r (new.now.trees 0 ≡ old.now.trees 0)
     × OnOk r (new.in_transaction ≡ old.in_transaction)
 made_people old new (Err e) has h = (tt, tt, tt, tt)
 made_people old new (Ok count) has h =
-    let w = subst (λ t. Writes old new None CreateTable t [] count) people_is.1 (runs_as people_text [] old new orders_alone has CreateTable people_is.0 people_plain count h) in
+    let w = subst (λ t. Writes old new None CreateTable t [] count) people_is.1
+    (runs_as people_text [] old new orders_alone has CreateTable people_is.0 people_plain count h) in
     let all = went w.changed in
     let first = went all.1 in
     let made = first.1 in
@@ -87,26 +96,20 @@ made_people old new (Ok count) has h =
       w.shown.mode,
     )
 
-orders_page : IsPageText both_tables orders.page 0
+orders_page : IsPageOf both_tables orders.page 0 (places orders)
 unfolding understood everything
 orders_page = record {
-  names = codes "id" ∷ codes "part" ∷ codes "n" ∷ [];
-  is = refl;
-  plain = (refl, refl);
-  unlisted = refl;
+  reads = record { names = codes "id" ∷ codes "part" ∷ codes "n" ∷ []; is = refl; plain = (refl, refl); unlisted = refl };
   place = 0;
   table = orders_table 0;
   at = refl;
   tree_is = refl;
 }
 
-people_page : IsPageText both_tables people.page 1
+people_page : IsPageOf both_tables people.page 1 (places people)
 unfolding understood everything
 people_page = record {
-  names = codes "id" ∷ codes "name" ∷ codes "active" ∷ [];
-  is = refl;
-  plain = (refl, refl);
-  unlisted = refl;
+  reads = record { names = codes "id" ∷ codes "name" ∷ codes "active" ∷ []; is = refl; plain = (refl, refl); unlisted = refl };
   place = 1;
   table = people_table 1;
   at = refl;
@@ -119,43 +122,41 @@ orders_target = record { table = orders_table 0; at = refl; tree_is = refl; free
 abbrev people_target : IsTableAt both_tables 1 1
 people_target = record { table = people_table 1; at = refl; tree_is = refl; free = λ olds news. refl }
 
-orders_delete : IsDeleteText both_tables orders.deleting 0
+orders_delete : IsDeleteFrom both_tables orders.deleting 0
 unfolding understood everything
-orders_delete = record { place = 0; target = orders_target; is = refl; plain = (refl, refl) }
+orders_delete = record { place = 0; target = orders_target; deletes = record { is = refl; plain = (refl, refl) } }
 
-people_delete : IsDeleteText both_tables people.deleting 1
+people_delete : IsDeleteFrom both_tables people.deleting 1
 unfolding understood everything
-people_delete = record { place = 1; target = people_target; is = refl; plain = (refl, refl) }
+people_delete = record { place = 1; target = people_target; deletes = record { is = refl; plain = (refl, refl) } }
 
-orders_insert : IsInsertText both_tables orders.inserting 0 types.Int types.Int
+orders_insert : IsInsertInto both_tables orders.inserting 0 orders.cells (further_kinds orders)
 unfolding understood everything
 orders_insert = record {
   place = 0;
   target = orders_target;
-  is = refl;
-  plain = (refl, refl);
-  kinds = refl;
+  inserts = record { is = refl; plain = (refl, refl) };
+  kinds_are = refl;
   uncounted = refl;
   unstamped = refl;
 }
 
-people_insert : IsInsertText both_tables people.inserting 1 types.Text types.Bool
+people_insert : IsInsertInto both_tables people.inserting 1 people.cells (further_kinds people)
 unfolding understood everything
 people_insert = record {
   place = 1;
   target = people_target;
-  is = refl;
-  plain = (refl, refl);
-  kinds = refl;
+  inserts = record { is = refl; plain = (refl, refl) };
+  kinds_are = refl;
   uncounted = refl;
   unstamped = refl;
 }
 
 orders_texts : AreTexts both_tables orders 0
-orders_texts = record { page = orders_page; delete = orders_delete; insert = orders_insert }
+orders_texts = record { page = orders_page; delete = orders_delete; insert = orders_insert; again = refl }
 
 people_texts : AreTexts both_tables people 1
-people_texts = record { page = people_page; delete = people_delete; insert = people_insert }
+people_texts = record { page = people_page; delete = people_delete; insert = people_insert; again = refl }
 
 -- the three texts of each layout are for the table in a tree
 texts_at : (t : ℕ) → (tree : ℕ) × AreTexts both_tables (layout_at t) tree
@@ -179,7 +180,7 @@ known schema t is = subst (λ s. ∥ IsKnown s (layout_at t) ∥₁) (sym is) �
 
 -- all three texts of each table are understood
 pub writable : (schema : Schema) (t : ℕ) → schema ≡ both_tables → ∥ IsWritable schema (layout_at t) ∥₁
-writable schema t is = subst (λ s. ∥ IsWritable s (layout_at t) ∥₁) (sym is) ∣ inr (texts_at t) ∣₁
+writable schema t is = subst (λ s. ∥ IsWritable s (layout_at t) ∥₁) (sym is) ∣ (written_at t, inr (texts_at t)) ∣₁
 
 abbrev get_or_zero : Option ℕ → ℕ
 get_or_zero None = 0

@@ -18,13 +18,17 @@ apart (Deletes k ∷ cs) j h = ((or_parts _ _ h).0, apart cs j (or_parts _ _ h).
 one_more : (cs : List Change) (j : ℕ) → IsNamedOnce cs → not (named cs j) ≡ true → IsDistinct nat_eq (ids_named cs ++ j ∷ [])
 one_more cs j once first =
     let front : IsPermutation (j ∷ ids_named cs) (ids_named cs ++ j ∷ []) =
-    IsPermutation-sym _ _ (subst (λ l. IsPermutation (ids_named cs ++ j ∷ []) (j ∷ l)) (append-nil (ids_named cs)) (IsPermutation-middle (ids_named cs) j [])) in
+    IsPermutation-sym _ _ (subst (λ l. IsPermutation (ids_named cs ++ j ∷ []) (j ∷ l)) (append-nil (ids_named cs)) (IsPermutation-middle
+    (ids_named cs) j [])) in
     IsDistinct-IsPermutation nat_eq turned _ _ front (IsDistinct-cons nat_eq j (ids_named cs) (apart cs j (not-true _ first)) once)
 
 pub once_more : (cs : List Change) (c : Change) → IsNamedOnce cs → is_first cs c ≡ true → IsNamedOnce (cs ++ c ∷ [])
-once_more cs (Inserts x) once first = subst (IsDistinct nat_eq) (sym (flat_map-append id_of_change cs (Inserts x ∷ []) ∙ append-nil (ids_named cs))) once
-once_more cs (Updates j x) once first = subst (IsDistinct nat_eq) (sym (flat_map-append id_of_change cs (Updates j x ∷ []))) (one_more cs j once first)
-once_more cs (Deletes j) once first = subst (IsDistinct nat_eq) (sym (flat_map-append id_of_change cs (Deletes j ∷ []))) (one_more cs j once first)
+once_more cs (Inserts x) once first = subst (IsDistinct nat_eq) (sym (flat_map-append id_of_change cs (Inserts x ∷ [])
+    ∙ append-nil (ids_named cs))) once
+once_more cs (Updates j x) once first = subst (IsDistinct nat_eq) (sym (flat_map-append id_of_change cs (Updates j x ∷ [])))
+    (one_more cs j once first)
+once_more cs (Deletes j) once first = subst (IsDistinct nat_eq) (sym (flat_map-append id_of_change cs (Deletes j ∷ [])))
+    (one_more cs j once first)
 
 pub none_named : IsNamedOnce []
 unfolding IsDistinct

@@ -33,7 +33,7 @@ goes_then {a} {b} {c} one two =
 
 -- the rows of some keys are out and rows are in
 pub reached : (old mid : State) (t : Layout) (gone : List ℤ) (fresh : List Tuple) → IsCleanAfter mid → StepsTo old mid t
-    → entries_of mid.now t ≡ rewritten gone fresh (entries_of old.now t) → repeats_key gone fresh (entries_of old.now t) ≡ false
+    → entries_of mid.now t ≡ rewritten t gone fresh (entries_of old.now t) → repeats_key t gone fresh (entries_of old.now t) ≡ false
     → mid.committed ≡ old.committed → GoesOn old mid → Reaches old mid t gone fresh
 reached old mid t gone fresh clean steps rows free kept on = record {
   clean = clean;
@@ -52,8 +52,8 @@ pub deleted : (old mid : State) (t : Layout) (gone : List ℤ) → IsCleanAfter 
 deleted old mid t gone clean steps rows kept on = reached old mid t gone [] clean steps rows refl kept on
 
 pub inserted : (old mid : State) (t : Layout) (fresh : List Tuple) → IsCleanAfter mid → StepsTo old mid t
-    → entries_of mid.now t ≡ put_all (entries_of old.now t) (map stored_cells fresh)
-    → are_fresh (entries_of old.now t) (map stored_cells fresh) ≡ true → mid.committed ≡ old.committed → GoesOn old mid
+    → entries_of mid.now t ≡ put_all (entries_of old.now t) (map (stored_cells t) fresh)
+    → are_fresh (entries_of old.now t) (map (stored_cells t) fresh) ≡ true → mid.committed ≡ old.committed → GoesOn old mid
     → Reaches old mid t [] fresh
 inserted old mid t fresh clean steps rows free kept on = reached old mid t [] fresh clean steps rows (ap not free) kept on
 
@@ -64,8 +64,8 @@ reaches_then old mid new t gone fresh one two = record {
   clean = two.clean;
   inside = two.inside;
   schema = two.schema ∙ one.schema;
-  free = ap (λ es. not (are_fresh es (map stored_cells fresh))) (sym one.rows) ∙ two.free;
-  rows = two.rows ∙ ap (λ es. put_all es (map stored_cells fresh)) one.rows;
+  free = ap (λ es. not (are_fresh es (map (stored_cells t) fresh))) (sym one.rows) ∙ two.free;
+  rows = two.rows ∙ ap (λ es. put_all es (map (stored_cells t) fresh)) one.rows;
   others = keeps_more old.now mid.now new.now t one.schema one.others two.others;
   kept = two.kept ∙ one.kept;
   goes_on = goes_then one.goes_on two.goes_on;

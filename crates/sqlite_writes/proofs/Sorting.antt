@@ -8,7 +8,7 @@ use Rattle.std.specs.List.Sorted.{IsSortedBy}
 use Rattle.std.proofs.lemmas.List.Sorted.{ranks_by, IsPermutation-trans}
 use Rattle.sqlite_trees.specs.Tree.{IsAscending}
 use Rattle.sqlite_trees.proofs.ListLemmas.{all_weaker, all-permutation, ascending-get_or}
-use Rattle.sqlite_tables.proofs.Unique.{Rises, only_sorted}
+use Rattle.sqlite_looks.proofs.Unique.{Rises, only_sorted}
 use Rattle.med_value.specs.Order.{datum_cmp}
 use Rattle.med_value.proofs.OrderLemmas.{datum_cmp_total}
 use Rattle.fdw_api.specs.Kinds.{Held}
@@ -41,8 +41,16 @@ put_sorted : (x : Held) (ys : List Held) → NoneAbove ys → NoneAbove (put_by_
 put_sorted x [] up = (tt, tt)
 put_sorted x (y ∷ ys) up = go (is_le (datum_cmp (key_cell x) (key_cell y))) refl (put_sorted x ys up.1)
   where
-    go : (b : Bool) → is_le (datum_cmp (key_cell x) (key_cell y)) ≡ b → NoneAbove (put_by_key x ys) → NoneAbove (if b then x ∷ y ∷ ys else y ∷ put_by_key x ys)
-    go true e more = ((not_above x y e, all_weaker (λ z. below z y ≡ false) (λ z. below z x ≡ false) (λ z h. by_keys.chain z y x h (not_above x y e)) ys up.0), up)
+    go : (b : Bool) → is_le (datum_cmp (key_cell x) (key_cell y)) ≡ b → NoneAbove (put_by_key x ys)
+        → NoneAbove (if b then x ∷ y ∷ ys else y ∷ put_by_key x ys)
+    go true e more = (
+      (
+        not_above x y e,
+        all_weaker (λ z. below z y ≡ false) (λ z. below z x ≡ false) (λ z h. by_keys.chain z y x h
+            (not_above x y e)) ys up.0,
+      ),
+      up,
+    )
     go false e more = (all-permutation (λ z. below z y ≡ false) (x ∷ ys) (put_by_key x ys) (put_permutes x ys) (not_below _ e, up.0), more)
 
 order_sorted : (xs : List Held) → NoneAbove (in_key_order xs)
@@ -55,4 +63,5 @@ sorted_by xs up k d low within = ascending-get_or (λ x y. below y x ≡ false) 
 -- rows in the order of their keys are the rising list that has them
 pub order_is : (xs ys : List Held) → Rises below by_keys ys → IsPermutation ys xs → in_key_order xs ≡ ys
 order_is xs ys up same =
-    only_sorted below by_keys ys (in_key_order xs) up (sorted_by _ (order_sorted xs)) (IsPermutation-trans ys xs (in_key_order xs) same (order_permutes xs))
+    only_sorted below by_keys ys (in_key_order xs) up (sorted_by _ (order_sorted xs)) (IsPermutation-trans ys xs (in_key_order xs) same
+    (order_permutes xs))

@@ -1,4 +1,4 @@
--- The database that stands at a path, over a store that always returns what was written.
+-- The database at a path, over a store that always returns what was written.
 use Rattle.std.proofs.Common.{◌≡◌, ◌∙◌, Bool, false, not, Option, Some, None, IfSome, IsTrue, sym, ap, subst}
 use Rattle.sqlite_trees.specs.Tree.{Trees}
 use Rattle.sqlite_trees.specs.declared.store.Store.{Ghosts}
@@ -24,8 +24,9 @@ module _ {S : Type 0} (g : Ghosts S) (c : Held S) (steady : IsSteady (g.view c.s
         lists = lists;
       }
 
-  -- of files that hold what stands there
-  held_there : (stands held : Option Image) → IfSome stands (λ image. held ≡ Some image) → ShowsKnown held (state g c) → ShowsKnown stands (state g c)
+  -- of files that hold those at the path
+  held_there : (stands held : Option Image) → IfSome stands (λ image. held ≡ Some image) → ShowsKnown held (state g c)
+      → ShowsKnown stands (state g c)
   held_there None held is shows = tt
   held_there (Some image) held is shows = subst (λ (it : Option Image). ShowsKnown it (state g c)) is shows
 

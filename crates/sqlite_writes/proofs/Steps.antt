@@ -26,12 +26,15 @@ all_has P (y ∷ ys) x all (inl e) = subst P (sym e) all.0
 all_has P (y ∷ ys) x all (inr h) = all_has P ys x all.1 h
 
 -- an edit of one table leaves the others of the schema alone
-pub others_kept : (old new : Database) (table : Table) (tree : ℕ) (edit : Edit) → edit.table ≡ table → table.tree ≡ tree → Applies old.schema Enforced old.trees edit new.trees → KeepsOthers old new tree
+pub others_kept : (old new : Database) (table : Table) (tree : ℕ) (edit : Edit) → edit.table ≡ table → table.tree ≡ tree
+    → Applies old.schema Enforced old.trees edit new.trees → KeepsOthers old new tree
 others_kept old new table tree edit at is applied place other here apart =
     let same : edit.table.tree ≡ tree = ap (λ (t : Table). t.tree) at ∙ is in
-    all_has (λ t. t.tree ≢ edit.table.tree → new.trees t.tree ≡ old.trees t.tree) old.schema.tables other applied.tables (has_got old.schema.tables place other here) (λ e. apart (e ∙ same))
+    all_has (λ t. t.tree ≢ edit.table.tree → new.trees t.tree ≡ old.trees t.tree) old.schema.tables other applied.tables
+    (has_got old.schema.tables place other here) (λ e. apart (e ∙ same))
 
 -- a text that is not understood is not run
-pub not_run : (text : List ℕ) (params : Row) (old new : State) (count : ℕ) → IsUnread old.now.schema text → Executes text params old new (Ok count) → ⊥
+pub not_run : (text : List ℕ) (params : Row) (old new : State) (count : ℕ) → IsUnread old.now.schema text
+    → Executes text params old new (Ok count) → ⊥
 unfolding ExecutesIn
 not_run text params old new count bad h = let e = sym h.1.is ∙ bad.1 in absurd cc

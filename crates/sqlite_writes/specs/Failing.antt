@@ -1,27 +1,18 @@
 -- Why a rewrite of a table fails: the statement that failed, what the table had when it was run, and the error that was reported.
-use Rattle.std.specs.Prelude.{◌≡◌, ◌≢◌, ◌⊎◌, ◌≤◌, ℕ, ℤ, false, List, [], ◌∷◌, map, take, slice_get, Some, IsTrue}
+use Rattle.std.specs.Prelude.{◌≡◌, ◌⊎◌, ◌≤◌, ℕ, ℤ, false, List, [], ◌∷◌, take, slice_get, Some, IsTrue}
 use Rattle.sqlite.specs.declared.types.Value.TheVariants as sql
 use Rattle.sqlite.specs.Order.{Row as SqlRow}
 use Rattle.sqlite.specs.Steps.{FailsToCommit}
 use Rattle.sqlite.specs.State.{State, IsRolledBack}
 use Rattle.sqlite.specs.Held.{Held, state}
-use Rattle.sqlite.specs.declared.error.ErrorCode.TheVariants.{OutOfMemory}
 use Rattle.sqlite.specs.declared.error.Error.{Error}
-use Rattle.sqlite.specs.declared.error.Error.TheVariants.{SqliteFailure}
 use Rattle.sqlite_trees.specs.declared.store.Store.{Ghosts}
 use Rattle.med_value.specs.Prelude.{Tuple}
 use Rattle.fdw_api.specs.declared.interface.Fault.{Fault}
-use Rattle.fdw_api.specs.declared.interface.Fault.TheVariants.{NoMemory, Source, Refused}
-use Rattle.sqlite_tables.specs.Prelude.{IsCleanAfter, Layout, entries_of}
+use Rattle.sqlite_tables.specs.Prelude.{IsCleanAfter, IsFailureOf, Layout, entries_of}
 use Rattle.sqlite_writes.specs.Writable.{KeepsTables}
 use Rattle.sqlite_writes.specs.Rewriting.{rewritten, repeats_key}
-use Rattle.sqlite_writes.specs.Stored.{IsReported, Reports, stored}
-
--- an error of a DELETE or of a COMMIT as the fault that its caller gets: out of memory is itself, and Source is any other error
-abbrev pub IsFailureOf : Error → Fault → Type 0
-IsFailureOf e NoMemory = e ≡ SqliteFailure OutOfMemory
-IsFailureOf e Source = e ≢ SqliteFailure OutOfMemory
-IsFailureOf e (Refused c) = ⊥
+use Rattle.sqlite_writes.specs.Stored.{IsReported, Reports, inserted_cells}
 
 -- a failure is that of an error that the connection reported
 abbrev pub IsReportedFailure : List ℕ → SqlRow → State → State → Fault → Type 0
@@ -32,13 +23,13 @@ pub record GoesOn (old new : State) : Type 0 where
   pub faults : old.faults ≤ new.faults
   pub limit : new.step_limit ≡ old.step_limit
 
--- a state inside the transaction of a rewrite: the rows of these keys are out and these rows are in, no key of which was taken
+-- a state inside the transaction of a rewrite: the rows of these keys are out and these rows are in, whose keys were free
 pub record Reaches (old mid : State) (l : Layout) (gone : List ℤ) (fresh : List Tuple) : Type 0 where
   pub clean : IsCleanAfter mid
   pub inside : IsTrue mid.in_transaction
   pub schema : mid.now.schema ≡ old.now.schema
-  pub free : repeats_key gone fresh (entries_of old.now l) ≡ false
-  pub rows : entries_of mid.now l ≡ rewritten gone fresh (entries_of old.now l)
+  pub free : repeats_key l gone fresh (entries_of old.now l) ≡ false
+  pub rows : entries_of mid.now l ≡ rewritten l gone fresh (entries_of old.now l)
   pub others : KeepsTables old.now mid.now l
   pub kept : mid.committed ≡ old.committed
   pub goes_on : GoesOn old mid
@@ -54,7 +45,7 @@ module _ {S : Type 0} (g : Ghosts S) (l : Layout) (old new : State) where
   abbrev pub FailsToInsert : List ℤ → List Tuple → Fault → Type 0
   FailsToInsert gone fresh fault =
       (mid : Held S) × (n : ℕ) × (row : Tuple) × (slice_get fresh n ≡ Some row) × Reaches old (state g mid) l gone (take n fresh)
-      × IsReported l.inserting (map stored row) (state g mid) new fault
+      × IsReported l.inserting (inserted_cells row) (state g mid) new fault
 
   abbrev pub FailsToChange : List ℤ → List Tuple → Fault → Type 0
   FailsToChange gone fresh fault = FailsToDelete gone fault ⊎ FailsToInsert gone fresh fault

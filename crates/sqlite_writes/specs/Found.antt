@@ -15,11 +15,11 @@ use Rattle.sqlite.specs.State.{State, HasCleanDisk}
 abbrev pub ShowsImage : Image → State → Type 0
 ShowsImage image s = HasCleanDisk s → FindsIn image s
 
--- the same of what stands at a path, where that is known
+-- the database is that of the files at a path, where these are known
 abbrev pub ShowsKnown : Option Image → State → Type 0
 ShowsKnown stands s = IfSome stands (λ image. ShowsImage image s)
 
--- what stands at each path as the files of a database, where that is known
+-- the files of a database at each path, where these are known
 abbrev pub Images : Type 0
 Images = List ℕ → Option Image
 
@@ -34,11 +34,11 @@ pub record IsFoundIn (image : Image) (db : Database) : Type 0 where
   pub reads : AreFoundIn image db.trees
   pub lists : IsDatabase db
 
--- the same of what stands at a path, where that is known
+-- the database is found in the files at a path, where these are known
 abbrev pub IsFoundAt : Images → List ℕ → Database → Type 0
 IsFoundAt images path db = IfSome (images path) (λ image. IsFoundIn image db)
 
--- errors that may be told in place of a database
+-- errors that may be reported in place of a database
 abbrev pub Errors : Type 1
 Errors = Error → Type 0
 

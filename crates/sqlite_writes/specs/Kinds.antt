@@ -17,7 +17,7 @@ no_line cells = []
 abbrev pub key_cell : Held → Datum
 key_cell r = cell r.cells 0
 
--- rows in the order of their keys: each stands before the first whose key is not below its own
+-- rows in the order of their keys: each comes before the first whose key is not below its own
 abbrev pub put_by_key : Held → List Held → List Held
 put_by_key x [] = x ∷ []
 put_by_key x (y ∷ ys) = if is_le (datum_cmp (key_cell x) (key_cell y)) then x ∷ y ∷ ys else y ∷ put_by_key x ys
@@ -52,7 +52,7 @@ lacks_key (Inserts r) = is_missing (cell r 0)
 lacks_key (Updates id r) = is_missing (cell r 0)
 lacks_key (Deletes id) = false
 
--- two of these values are one; NULL is no value
+-- two of these values are equal; NULL is no value
 abbrev pub repeats : List Datum → Bool
 repeats [] = false
 repeats (v ∷ vs) = list_any (λ w. not (is_missing v) && is_eq (datum_cmp v w)) vs || repeats vs

@@ -1,5 +1,5 @@
-pub mod Writable
 pub mod Stored
+pub mod Writable
 pub mod Changes
 pub mod Rewriting
 pub mod Failing

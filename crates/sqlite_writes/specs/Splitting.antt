@@ -14,6 +14,7 @@ use Rattle.fdw_api.specs.declared.interface.Fault.{Fault}
 use Rattle.fdw_api.specs.declared.interface.Fault.TheVariants.{NoMemory, Source, Refused}
 use Rattle.sqlite_tables.specs.Prelude.{Layout, rows_in, least, greatest}
 use Rattle.sqlite_writes.specs.Rewriting.{has_place}
+use Rattle.sqlite_writes.specs.Writable.{IsWritten}
 use Rattle.sqlite_writes.specs.Kinds.{lacks_key}
 
 -- the id of the old row that a change names
@@ -63,16 +64,17 @@ is_readable (Logic b) = true
 abbrev pub is_holdable : Tuple → Bool
 is_holdable cells = is_key (cell cells 0) && list_all is_readable cells
 
--- changes of a table that holds these entries: they name rows that are there, each once, and each new row is of the table's types, with
--- a key
+-- changes of a table that holds these entries: its rows can be written, the changes name rows that are there, each once, and each new row
+-- is of the table's types, with a key
 pub record AreChanges (l : Layout) (entries : List SqlRow) (changes : List Change) : Type 0 where
+  pub written : IsWritten l
   pub ordered : IsShaped shape.Table entries
   pub once : IsNamedOnce changes
   pub there : list_all (id_is_there (rows_in l entries)) changes ≡ true
   pub placed : list_all (has_place l) (rows_come changes) ≡ true
   pub holdable : list_all is_holdable (rows_come changes) ≡ true
 
--- want of memory, or 23502, and then a change writes a row without a key
+-- out of memory, or 23502, and then a change writes a row without a key
 abbrev pub IsKeyless : List Change → Fault → Type 0
 IsKeyless changes NoMemory = Unit {0}
 IsKeyless changes Source = ⊥

@@ -14,19 +14,19 @@ ghost use Rattle.sqlite_writes.specs.Splitting.{keys_gone, rows_come, AreChanges
 /// each under an id of its own. A key of the rewrite repeats just where two of those rows have one key.
 pub fn changes_are_a_rewrite()
     ensures rows { (l : Layout) (entries : List SqlRow) (changes : List Change) → AreChanges l entries changes
-        → repeats_key (keys_gone changes) (rows_come changes) entries ≡ false
-        → map held (rows_in l (rewritten (keys_gone changes) (rows_come changes) entries))
+        → repeats_key l (keys_gone changes) (rows_come changes) entries ≡ false
+        → map held (rows_in l (rewritten l (keys_gone changes) (rows_come changes) entries))
         ≡ in_key_order (rows_after no_line (rows_in l entries) changes) }
     ensures repeats { (l : Layout) (entries : List SqlRow) (changes : List Change) → AreChanges l entries changes
-        → repeats_key (keys_gone changes) (rows_come changes) entries
+        → repeats_key l (keys_gone changes) (rows_come changes) entries
         ≡ repeats (map key_cell (rows_after no_line (rows_in l entries) changes)) }
     ensures count { (l : Layout) (entries : List SqlRow) (changes : List Change) → AreChanges l entries changes
         → length (rows_after no_line (rows_in l entries) changes) + length (keys_gone changes)
         ≡ length (rows_in l entries) + length (rows_come changes) }
     ensures once { (l : Layout) (entries : List SqlRow) (changes : List Change) → AreChanges l entries changes
-        → IsDistinct nat_eq (map (λ r. r.id) (rows_in l (rewritten (keys_gone changes) (rows_come changes) entries))) }
+        → IsDistinct nat_eq (map (λ r. r.id) (rows_in l (rewritten l (keys_gone changes) (rows_come changes) entries))) }
     ensures ordered { (l : Layout) (entries : List SqlRow) (changes : List Change) → AreChanges l entries changes
-        → IsShaped shape.Table (rewritten (keys_gone changes) (rows_come changes) entries) }
+        → IsShaped shape.Table (rewritten l (keys_gone changes) (rows_come changes) entries) }
 {}
 
 /// Changes name each row once where each is the first to name its row.

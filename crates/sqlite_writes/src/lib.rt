@@ -1,5 +1,5 @@
-//! Writes to the tables of SQLite databases: a row taken out, a row put in, and many of them as one transaction; the changes of a write as keys
-//! of rows that go and rows that come; and databases that are opened as sources.
+//! Writes to the tables of SQLite databases: a row taken out, a row put in, and many of them as one transaction; the changes of a write as
+//! keys of rows that go and rows that come; and databases that are opened as sources.
 #![tactic(auto)]
 
 pub mod files;

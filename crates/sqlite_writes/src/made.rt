@@ -37,9 +37,9 @@ fn make_people(conn: &mut Connection<MemStore>) -> Result<usize, Error>
     )
 }
 
-/// A new database in memory, with the tables of orders and of people, both without rows, and in no transaction.
+/// Returns a new database in memory, with the tables of orders and of people, both without rows, and in no transaction.
 ///
-/// It is refused where the database refuses one of the two texts that make them, as for want of memory.
+/// Fails where the database refuses one of the two texts that make them, as when out of memory.
 pub fn memory_database(alloc: Global) -> Result<Connection<MemStore>, Error>
     ensures known { (table : ℕ) → IfOk result (λ conn. ∥ IsKnown conn.schema (layout_at table) ∥₁) }
     ensures writable { (table : ℕ) → IfOk result (λ conn. ∥ IsWritable conn.schema (layout_at table) ∥₁) }

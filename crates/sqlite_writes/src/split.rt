@@ -25,27 +25,27 @@ pub struct Split {
 
 // Whether a row of a table has a key.
 fn has_key(row: &Row) -> bool
-    ensures has { (l : Layout) → row_fits (kinds_in l) (tuple row.now) ≡ true
-        → result ≡ not (is_missing (cell (tuple row.now) 0)) }
+    ensures has { result ≡ not (is_missing (cell (tuple row.now) 0)) }
     ensures holdable { result ≡ true → is_holdable (tuple row.now) ≡ true }
 {
     match row.cells.first() {
+        None | Some(Value::Null) => false,
         Some(Value::Int(key)) => {
             let _key: i64 = *key;
             true
         }
-        _ => false,
+        Some(Value::Text(_text)) => true,
+        Some(Value::Bool(_truth)) => true,
     }
 }
 
-// A row with a key; one without is refused by 23502.
+// Returns a row with a key; refuses one without by 23502.
 fn keyed(row: Row) -> Result<Row, Fault>
     ensures same { IfOk result (λ r. r ≡ row) }
     ensures placed { (l : Layout) → row_fits (kinds_in l) (tuple row) ≡ true
         → IfOk result (λ r. has_place l (tuple row) ≡ true) }
     ensures holdable { IfOk result (λ r. is_holdable (tuple row) ≡ true) }
-    ensures err { IfErr result (λ fault. (fault ≡ Fault.Refused NotNull)
-        × ((l : Layout) → row_fits (kinds_in l) (tuple row) ≡ true → is_missing (cell (tuple row) 0) ≡ true)) }
+    ensures err { IfErr result (λ fault. (fault ≡ Fault.Refused NotNull) × (is_missing (cell (tuple row) 0) ≡ true)) }
 {
     if has_key(&row) {
         Ok(row)

@@ -1,6 +1,6 @@
 //! The databases of the system's files.
 //!
-//! What stands at a path nobody tells: whoever else writes the files and what the system does is not known. That `open_files` opens the
+//! Which files are at a path is not known: others may write them, and what the system does is not known. That `open_files` opens the
 //! files at its path is trusted; that `connect` opens the database in the files that it is given is proved.
 ghost use Rattle.std.specs.Prelude.{◌≡◌, ℕ, true, false, Some, None, IsTrue, IfOk};
 ghost use Rattle.sqlite_std_file.specs.File.{file_is_usable};
@@ -23,7 +23,7 @@ const NO_MEMORY: Error = Error::SqliteFailure(ErrorCode::OutOfMemory);
 
 const CANNOT_OPEN: Error = Error::SqliteFailure(ErrorCode::CannotOpen);
 
-/// The files of a database of the system: its log and its database file, of which no sync has failed.
+/// The files of a database of the system: its log and its database file. No sync of the two has failed.
 #[derive(Drop)]
 pub struct SystemFiles {
     pair: Files<File>,

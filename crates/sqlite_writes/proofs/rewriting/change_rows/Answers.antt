@@ -13,16 +13,20 @@ use Rattle.sqlite_writes.proofs.Reaching.{goes_then, deleted, reaches_then}
 use Rattle.sqlite_writes.proofs.rewriting.change_rows.Goals as goal
 
 pub insert_all-requires-clause-writable : goal.insert_all-requires-clause-writable
-insert_all-requires-clause-writable g c h = subst (λ (s : Schema). ∥ IsWritable s c.args.shape.now ∥₁) (sym (c.in-Ok.ensures.schema h)) (c.requires.writable h)
+insert_all-requires-clause-writable g c h =
+    subst (λ (s : Schema). ∥ IsWritable s c.args.shape.now ∥₁) (sym (c.in-Ok.ensures.schema h)) (c.requires.writable h)
 
 pub returns-in-Ok-clause-rows : goal.returns-in-Ok-clause-rows
 returns-in-Ok-clause-rows g c h =
-    done_more c.insert_all.result _ _ (λ e. e ∙ ap (λ es. put_all es (map stored_cells (map tuple c.args.fresh.now))) (c.in-Ok.ensures.rows h)) (c.insert_all.ensures.rows h)
+    done_more c.insert_all.result _ _ (λ e. e
+    ∙ ap (λ es. put_all es (map (stored_cells c.args.shape.now) (map tuple c.args.fresh.now))) (c.in-Ok.ensures.rows h))
+    (c.insert_all.ensures.rows h)
 
 pub returns-in-Ok-clause-free : goal.returns-in-Ok-clause-free
 returns-in-Ok-clause-free g c h =
     done_more c.insert_all.result _ _
-    (λ e. ap not (ap (λ es. are_fresh es (map stored_cells (map tuple c.args.fresh.now))) (sym (c.in-Ok.ensures.rows h)) ∙ e)) (c.insert_all.ensures.free h)
+    (λ e. ap not (ap (λ es. are_fresh es (map (stored_cells c.args.shape.now) (map tuple c.args.fresh.now))) (sym
+    (c.in-Ok.ensures.rows h)) ∙ e)) (c.insert_all.ensures.free h)
 
 pub returns-in-Ok-clause-schema : goal.returns-in-Ok-clause-schema
 returns-in-Ok-clause-schema g c h = done_more c.insert_all.result _ _ (λ e. e ∙ c.in-Ok.ensures.schema h) (c.insert_all.ensures.schema h)
@@ -30,13 +34,18 @@ returns-in-Ok-clause-schema g c h = done_more c.insert_all.result _ _ (λ e. e �
 pub returns-in-Ok-clause-others : goal.returns-in-Ok-clause-others
 returns-in-Ok-clause-others g c h =
     done_more c.insert_all.result _ _
-    (keeps_more (state g.S.Store c.args.tx.now.conn.now).now (state g.S.Store c.delete_all.new.tx.conn.now).now (state g.S.Store c.insert_all.new.tx.conn.now).now c.args.shape.now (c.in-Ok.ensures.schema h) (c.in-Ok.ensures.others h))
+    (keeps_more (state g.S.Store c.args.tx.now.conn.now).now (state g.S.Store c.delete_all.new.tx.conn.now).now
+    (state g.S.Store c.insert_all.new.tx.conn.now).now c.args.shape.now (c.in-Ok.ensures.schema h) (c.in-Ok.ensures.others h))
     (c.insert_all.ensures.others h)
 
 pub returns-in-Ok-clause-refused : goal.returns-in-Ok-clause-refused
 returns-in-Ok-clause-refused g c =
     refused_more c.insert_all.result _ _
-    (λ cause by. (by.0, λ h. ap not (ap (λ es. are_fresh es (map stored_cells (map tuple c.args.fresh.now))) (sym (c.in-Ok.ensures.rows h)) ∙ by.1 h)))
+    (λ cause by. (
+      by.0,
+      λ h. ap not (ap (λ es. are_fresh es (map (stored_cells c.args.shape.now) (map tuple c.args.fresh.now))) (sym
+          (c.in-Ok.ensures.rows h)) ∙ by.1 h),
+    ))
     c.insert_all.ensures.refused
 
 pub returns-in-Ok-clause-kept : goal.returns-in-Ok-clause-kept
@@ -47,7 +56,9 @@ returns-in-Ok-clause-sure_rows g c h =
     let sure = step_first c.insert_all.ensures.was_clean h in
     let steps = c.in-Ok.ensures.sure_steps sure in
     let next = step_then steps h in
-    done_more c.insert_all.result _ _ (λ e. e ∙ ap (λ es. put_all es (map stored_cells (map tuple c.args.fresh.now))) (c.in-Ok.ensures.sure_rows sure)) (c.insert_all.ensures.sure_rows next)
+    done_more c.insert_all.result _ _ (λ e. e
+    ∙ ap (λ es. put_all es (map (stored_cells c.args.shape.now) (map tuple c.args.fresh.now))) (c.in-Ok.ensures.sure_rows sure))
+    (c.insert_all.ensures.sure_rows next)
 
 pub returns-in-Ok-clause-sure_free : goal.returns-in-Ok-clause-sure_free
 returns-in-Ok-clause-sure_free g c h =
@@ -55,7 +66,8 @@ returns-in-Ok-clause-sure_free g c h =
     let steps = c.in-Ok.ensures.sure_steps sure in
     let next = step_then steps h in
     done_more c.insert_all.result _ _
-    (λ e. ap not (ap (λ es. are_fresh es (map stored_cells (map tuple c.args.fresh.now))) (sym (c.in-Ok.ensures.sure_rows sure)) ∙ e)) (c.insert_all.ensures.sure_free next)
+    (λ e. ap not (ap (λ es. are_fresh es (map (stored_cells c.args.shape.now) (map tuple c.args.fresh.now))) (sym
+    (c.in-Ok.ensures.sure_rows sure)) ∙ e)) (c.insert_all.ensures.sure_free next)
 
 pub returns-in-Ok-clause-sure_steps : goal.returns-in-Ok-clause-sure_steps
 returns-in-Ok-clause-sure_steps g c h =
@@ -70,7 +82,8 @@ returns-in-Ok-clause-sure_refused g c =
     (λ cause by h.
     let sure = step_first c.insert_all.ensures.was_clean h in
     let next = step_then (c.in-Ok.ensures.sure_steps sure) h in
-    ap not (ap (λ es. are_fresh es (map stored_cells (map tuple c.args.fresh.now))) (sym (c.in-Ok.ensures.sure_rows sure)) ∙ by next))
+    ap not (ap (λ es. are_fresh es (map (stored_cells c.args.shape.now) (map tuple c.args.fresh.now))) (sym
+    (c.in-Ok.ensures.sure_rows sure)) ∙ by next))
     c.insert_all.ensures.sure_refused
 
 pub returns-in-Ok-clause-sure_kept : goal.returns-in-Ok-clause-sure_kept

@@ -12,7 +12,8 @@ use Rattle.sqlite_writes.proofs.Reaching.{got, goes_then, deleted}
 use Rattle.sqlite_writes.proofs.rewriting.delete_all.Goals as goal
 
 pub delete_row-requires-clause-writable : goal.delete_row-requires-clause-writable
-delete_row-requires-clause-writable g c h = subst (λ (s : Schema). ∥ IsWritable s c.args.shape.now ∥₁) (sym (c.loop-key.invariant.schema h)) (c.requires.writable h)
+delete_row-requires-clause-writable g c h =
+    subst (λ (s : Schema). ∥ IsWritable s c.args.shape.now ∥₁) (sym (c.loop-key.invariant.schema h)) (c.requires.writable h)
 
 pub loop-key-preserved : goal.loop-key-preserved
 loop-key-preserved g c =
@@ -34,7 +35,8 @@ loop-key-preserved g c =
       rows = λ h.
           let one : entries_of new t ≡ without_rowid key (entries_of mid t) = rw e at (c.in-Ok.ensures.rows h) in
           rw (take_more c.args.gone.now c.loop-key.key-index (pos 0) c.loop-key-test.true)
-          (one ∙ ap (without_rowid key) (inv.rows h) ∙ sym (without_more (entries_of old t) (take c.loop-key.key-index c.args.gone.now) key));
+          (one ∙ ap (without_rowid key) (inv.rows h)
+          ∙ sym (without_more (entries_of old t) (take c.loop-key.key-index c.args.gone.now) key));
       was_clean = λ after. inv.was_clean (c.in-Ok.ensures.was_clean after);
       goes_on = goes_then inv.goes_on c.delete_row.ensures.goes_on;
       sure_steps = λ h.
@@ -45,9 +47,11 @@ loop-key-preserved g c =
           c.in-Ok.ensures.sure_kept (step_then (inv.sure_steps before) h) ∙ inv.sure_kept before;
       sure_rows = λ h.
           let before = step_first c.in-Ok.ensures.was_clean h in
-          let one : entries_of new t ≡ without_rowid key (entries_of mid t) = rw e at (c.in-Ok.ensures.sure_rows (step_then (inv.sure_steps before) h)) in
+          let one : entries_of new t ≡ without_rowid key (entries_of mid t) =
+          rw e at (c.in-Ok.ensures.sure_rows (step_then (inv.sure_steps before) h)) in
           rw (take_more c.args.gone.now c.loop-key.key-index (pos 0) c.loop-key-test.true)
-          (one ∙ ap (without_rowid key) (inv.sure_rows before) ∙ sym (without_more (entries_of old t) (take c.loop-key.key-index c.args.gone.now) key));
+          (one ∙ ap (without_rowid key) (inv.sure_rows before)
+          ∙ sym (without_more (entries_of old t) (take c.loop-key.key-index c.args.gone.now) key));
     }
 
 pub returns-in-Err-clause-sure_kept : goal.returns-in-Err-clause-sure_kept

@@ -19,10 +19,12 @@ invariant-loop-key g l =
       ordered : g.S.SourceStore.honest ≡ true → IsShaped shape.Table (entries_of now.now l.shape);
       others : g.S.SourceStore.honest ≡ true → KeepsTables old.now now.now l.shape;
       kept : g.S.SourceStore.honest ≡ true → now.committed ≡ old.committed;
-      rows : g.S.SourceStore.honest ≡ true → entries_of now.now l.shape ≡ without_all (entries_of old.now l.shape) (take l.key-index l.gone);
+      rows : g.S.SourceStore.honest ≡ true → entries_of now.now l.shape ≡ without_all (entries_of old.now l.shape)
+          (take l.key-index l.gone);
       was_clean : IsCleanAfter now → IsCleanAfter old;
       goes_on : GoesOn old now;
       sure_steps : IsSureStep old now l.shape → StepsTo old now l.shape;
       sure_kept : IsSureStep old now l.shape → now.committed ≡ old.committed;
-      sure_rows : IsSureStep old now l.shape → entries_of now.now l.shape ≡ without_all (entries_of old.now l.shape) (take l.key-index l.gone);
+      sure_rows : IsSureStep old now l.shape → entries_of now.now l.shape ≡ without_all (entries_of old.now l.shape)
+          (take l.key-index l.gone);
     }

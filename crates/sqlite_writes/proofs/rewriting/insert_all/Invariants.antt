@@ -21,12 +21,18 @@ invariant-loop-row g l =
       ordered : g.S.SourceStore.honest ≡ true → IsShaped shape.Table (entries_of now.now l.shape);
       others : g.S.SourceStore.honest ≡ true → KeepsTables old.now now.now l.shape;
       kept : g.S.SourceStore.honest ≡ true → now.committed ≡ old.committed;
-      rows : g.S.SourceStore.honest ≡ true → entries_of now.now l.shape ≡ put_all (entries_of old.now l.shape) (map stored_cells (map tuple (take l.row-index l.fresh)));
-      free : g.S.SourceStore.honest ≡ true → are_fresh (entries_of old.now l.shape) (map stored_cells (map tuple (take l.row-index l.fresh))) ≡ true;
+      rows : g.S.SourceStore.honest ≡ true →
+          entries_of now.now l.shape ≡
+          put_all (entries_of old.now l.shape) (map (stored_cells l.shape) (map tuple (take l.row-index l.fresh)));
+      free : g.S.SourceStore.honest ≡ true →
+          are_fresh (entries_of old.now l.shape) (map (stored_cells l.shape) (map tuple (take l.row-index l.fresh))) ≡ true;
       was_clean : IsCleanAfter now → IsCleanAfter old;
       goes_on : GoesOn old now;
       sure_steps : IsSureStep old now l.shape → StepsTo old now l.shape;
       sure_kept : IsSureStep old now l.shape → now.committed ≡ old.committed;
-      sure_rows : IsSureStep old now l.shape → entries_of now.now l.shape ≡ put_all (entries_of old.now l.shape) (map stored_cells (map tuple (take l.row-index l.fresh)));
-      sure_free : IsSureStep old now l.shape → are_fresh (entries_of old.now l.shape) (map stored_cells (map tuple (take l.row-index l.fresh))) ≡ true;
+      sure_rows : IsSureStep old now l.shape →
+          entries_of now.now l.shape ≡
+          put_all (entries_of old.now l.shape) (map (stored_cells l.shape) (map tuple (take l.row-index l.fresh)));
+      sure_free : IsSureStep old now l.shape →
+          are_fresh (entries_of old.now l.shape) (map (stored_cells l.shape) (map tuple (take l.row-index l.fresh))) ≡ true;
     }

@@ -17,7 +17,8 @@ change_rows-requires-clause-writable g c h = rw c.transaction-tx.ensures.begun (
 
 pub change_rows-requires-clause-ordered : goal.change_rows-requires-clause-ordered
 change_rows-requires-clause-ordered g c h =
-    rw c.transaction-tx.ensures.begun (entries_ordered g.S.Store c.args.conn.now c.args.shape.now (g.met.S.SourceStore.steady h c.args.conn.now.store) c.schema-schema.ensures.live (c.requires.writable h))
+    rw c.transaction-tx.ensures.begun (entries_ordered g.S.Store c.args.conn.now c.args.shape.now
+    (g.met.S.SourceStore.steady h c.args.conn.now.store) c.schema-schema.ensures.live (c.requires.writable h))
 
 pub returns-in-Ok-clause-others : goal.returns-in-Ok-clause-others
 returns-in-Ok-clause-others g c h =
@@ -27,7 +28,8 @@ returns-in-Ok-clause-others g c h =
     let now = (c.in-Ok.ensures.ok (g.met.S.SourceStore.steady h end.store).clean).1.now_is in
     let kept : KeepsTables old (state g.S.Store c.change_rows.new.tx.conn.now).now c.args.shape.now =
     rw c.transaction-tx.ensures.begun at (c.in_default.ensures.others h) in
-    subst (λ k. KeepsTables old (state g.S.Store k).now c.args.shape.now) same (subst (λ (d : Database). KeepsTables old d c.args.shape.now) (sym now) kept)
+    subst (λ k. KeepsTables old (state g.S.Store k).now c.args.shape.now) same (subst (λ
+    (d : Database). KeepsTables old d c.args.shape.now) (sym now) kept)
 
 pub returns-in-Ok-clause-sure_rows : goal.returns-in-Ok-clause-sure_rows
 returns-in-Ok-clause-sure_rows g c h =
@@ -37,11 +39,14 @@ returns-in-Ok-clause-sure_rows g c h =
     let same : end ≡ c.conn-2-1.given.0 = search rules in
     let sure = subst (λ k. IsSureWrite was (state g.S.Store k) t) (sym same) h in
     let ok = c.in-Ok.ensures.ok sure.after.clean in
-    let mid = clean_before (state g.S.Store c.change_rows.new.tx.conn.now) (state g.S.Store end) c.commit.ensures.survives.clean (λ up. ok.1.was_open) sure.after in
-    let step = begun_step g.S.Store c.args.conn.now c.transaction-tx.result.conn.now c.change_rows.new.tx.conn.now t c.transaction-tx.ensures.begun mid sure.writable sure.ordered in
+    let mid = clean_before (state g.S.Store c.change_rows.new.tx.conn.now) (state g.S.Store end) c.commit.ensures.survives.clean
+    (λ up. ok.1.was_open) sure.after in
+    let step = begun_step g.S.Store c.args.conn.now c.transaction-tx.result.conn.now c.change_rows.new.tx.conn.now t
+    c.transaction-tx.ensures.begun mid sure.writable sure.ordered in
     let now = ok.1.now_is in
     let rows = rw c.transaction-tx.ensures.begun at (c.in_default.ensures.sure_rows step) in
-    subst (λ k. entries_of (state g.S.Store k).now t ≡ rewritten c.args.gone.now (map tuple c.args.fresh.now) (entries_of was.now t)) same (ap (λ (d : Database). entries_of d t) now ∙ rows)
+    subst (λ k. entries_of (state g.S.Store k).now t ≡ rewritten t c.args.gone.now (map tuple c.args.fresh.now)
+    (entries_of was.now t)) same (ap (λ (d : Database). entries_of d t) now ∙ rows)
 
 pub returns-in-Ok-clause-sure_free : goal.returns-in-Ok-clause-sure_free
 returns-in-Ok-clause-sure_free g c h =
@@ -51,8 +56,10 @@ returns-in-Ok-clause-sure_free g c h =
     let same : end ≡ c.conn-2-1.given.0 = search rules in
     let sure = subst (λ k. IsSureWrite was (state g.S.Store k) t) (sym same) h in
     let ok = c.in-Ok.ensures.ok sure.after.clean in
-    let mid = clean_before (state g.S.Store c.change_rows.new.tx.conn.now) (state g.S.Store end) c.commit.ensures.survives.clean (λ up. ok.1.was_open) sure.after in
-    let step = begun_step g.S.Store c.args.conn.now c.transaction-tx.result.conn.now c.change_rows.new.tx.conn.now t c.transaction-tx.ensures.begun mid sure.writable sure.ordered in
+    let mid = clean_before (state g.S.Store c.change_rows.new.tx.conn.now) (state g.S.Store end) c.commit.ensures.survives.clean
+    (λ up. ok.1.was_open) sure.after in
+    let step = begun_step g.S.Store c.args.conn.now c.transaction-tx.result.conn.now c.change_rows.new.tx.conn.now t
+    c.transaction-tx.ensures.begun mid sure.writable sure.ordered in
     let now = ok.1.now_is in
     rw c.transaction-tx.ensures.begun at (c.in_default.ensures.sure_free step)
 
@@ -72,8 +79,10 @@ returns-in-Ok-clause-sure_schema g c h =
     let same : end ≡ c.conn-2-1.given.0 = search rules in
     let sure = subst (λ k. IsSureWrite was (state g.S.Store k) t) (sym same) h in
     let ok = c.in-Ok.ensures.ok sure.after.clean in
-    let mid = clean_before (state g.S.Store c.change_rows.new.tx.conn.now) (state g.S.Store end) c.commit.ensures.survives.clean (λ up. ok.1.was_open) sure.after in
-    let step = begun_step g.S.Store c.args.conn.now c.transaction-tx.result.conn.now c.change_rows.new.tx.conn.now t c.transaction-tx.ensures.begun mid sure.writable sure.ordered in
+    let mid = clean_before (state g.S.Store c.change_rows.new.tx.conn.now) (state g.S.Store end) c.commit.ensures.survives.clean
+    (λ up. ok.1.was_open) sure.after in
+    let step = begun_step g.S.Store c.args.conn.now c.transaction-tx.result.conn.now c.change_rows.new.tx.conn.now t
+    c.transaction-tx.ensures.begun mid sure.writable sure.ordered in
     let now = ok.1.now_is in
     let schema = rw c.transaction-tx.ensures.begun at ((c.in_default.ensures.sure_steps step).schema) in
     subst (λ k. (state g.S.Store k).now.schema ≡ was.now.schema) same (ap (λ (d : Database). d.schema) now ∙ schema)
@@ -86,8 +95,10 @@ returns-in-Ok-clause-sure_others g c h =
     let same : end ≡ c.conn-2-1.given.0 = search rules in
     let sure = subst (λ k. IsSureWrite was (state g.S.Store k) t) (sym same) h in
     let ok = c.in-Ok.ensures.ok sure.after.clean in
-    let mid = clean_before (state g.S.Store c.change_rows.new.tx.conn.now) (state g.S.Store end) c.commit.ensures.survives.clean (λ up. ok.1.was_open) sure.after in
-    let step = begun_step g.S.Store c.args.conn.now c.transaction-tx.result.conn.now c.change_rows.new.tx.conn.now t c.transaction-tx.ensures.begun mid sure.writable sure.ordered in
+    let mid = clean_before (state g.S.Store c.change_rows.new.tx.conn.now) (state g.S.Store end) c.commit.ensures.survives.clean
+    (λ up. ok.1.was_open) sure.after in
+    let step = begun_step g.S.Store c.args.conn.now c.transaction-tx.result.conn.now c.change_rows.new.tx.conn.now t
+    c.transaction-tx.ensures.begun mid sure.writable sure.ordered in
     let now = ok.1.now_is in
     let kept : KeepsTables was.now (state g.S.Store c.change_rows.new.tx.conn.now).now t =
     rw c.transaction-tx.ensures.begun at ((c.in_default.ensures.sure_steps step).others) in
@@ -101,8 +112,10 @@ returns-in-Err-clause-sure_same g c h =
     let same : end ≡ c.conn-1.given.0 = search rules in
     let sure = subst (λ k. IsSureWrite was (state g.S.Store k) t) (sym same) h in
     let undone = c.drop-tx.ensures.undone sure.after.clean in
-    let mid = clean_before (state g.S.Store c.change_rows.new.tx.conn.now) (state g.S.Store end) c.drop-tx.ensures.survives.clean undone.was_open sure.after in
-    let step = begun_step g.S.Store c.args.conn.now c.transaction-tx.result.conn.now c.change_rows.new.tx.conn.now t c.transaction-tx.ensures.begun mid sure.writable sure.ordered in
+    let mid = clean_before (state g.S.Store c.change_rows.new.tx.conn.now)
+    (state g.S.Store end) c.drop-tx.ensures.survives.clean undone.was_open sure.after in
+    let step = begun_step g.S.Store c.args.conn.now c.transaction-tx.result.conn.now c.change_rows.new.tx.conn.now t
+    c.transaction-tx.ensures.begun mid sure.writable sure.ordered in
     let first = rw c.transaction-tx.ensures.begun at (c.in-Err.ensures.was_clean mid) in
     let kept = rw c.transaction-tx.ensures.begun at (c.in-Err.ensures.sure_kept step) in
     let idle = c.is_autocommit-idle.ensures in
@@ -120,8 +133,10 @@ returns-in-Err-clause-sure_refused g c =
     let same : end ≡ c.conn-1.given.0 = search rules in
     let sure = subst (λ k. IsSureWrite was (state g.S.Store k) t) (sym same) h in
     let undone = c.drop-tx.ensures.undone sure.after.clean in
-    let mid = clean_before (state g.S.Store c.change_rows.new.tx.conn.now) (state g.S.Store end) c.drop-tx.ensures.survives.clean undone.was_open sure.after in
-    let step = begun_step g.S.Store c.args.conn.now c.transaction-tx.result.conn.now c.change_rows.new.tx.conn.now t c.transaction-tx.ensures.begun mid sure.writable sure.ordered in
+    let mid = clean_before (state g.S.Store c.change_rows.new.tx.conn.now)
+    (state g.S.Store end) c.drop-tx.ensures.survives.clean undone.was_open sure.after in
+    let step = begun_step g.S.Store c.args.conn.now c.transaction-tx.result.conn.now c.change_rows.new.tx.conn.now t
+    c.transaction-tx.ensures.begun mid sure.writable sure.ordered in
     rw c.transaction-tx.ensures.begun at (repeats step))
     c.in-Err.ensures.sure_refused
 
@@ -136,7 +151,8 @@ returns-in-Err-commit-clause-sure_same g c h =
     let fails = c.in-Err-commit.ensures.err sure.after.clean in
     let mid = clean_before written (state g.S.Store end) c.commit.ensures.survives.clean
     (commit_open written (state g.S.Store end) c.in-Err-commit.error fails) sure.after in
-    let step = begun_step g.S.Store c.args.conn.now c.transaction-tx.result.conn.now c.change_rows.new.tx.conn.now t c.transaction-tx.ensures.begun mid sure.writable sure.ordered in
+    let step = begun_step g.S.Store c.args.conn.now c.transaction-tx.result.conn.now c.change_rows.new.tx.conn.now t
+    c.transaction-tx.ensures.begun mid sure.writable sure.ordered in
     let first = rw c.transaction-tx.ensures.begun at (c.in_default.ensures.was_clean mid) in
     let kept = rw c.transaction-tx.ensures.begun at (c.in_default.ensures.sure_kept step) in
     let undone = commit_undone written (state g.S.Store end) c.in-Err-commit.error fails

@@ -7,31 +7,41 @@ use Rattle.sqlite_writes.proofs.rows.delete_row.Goals as goal
 pub returns-in-Ok-clause-rows : goal.returns-in-Ok-clause-rows
 returns-in-Ok-clause-rows g c h =
     let key = to_z-of_z w64 c.args.key c.ranges.key in
-    delete_rows (state g.S.Store c.args.tx.now.conn.now).now (state g.S.Store c.delete.new.tx.conn.now).now c.args.shape.now c.args.key c.delete_text.result.now c.delete_text.ensures (c.requires.writable h) (c.requires.ordered h)
+    delete_rows (state g.S.Store c.args.tx.now.conn.now).now
+    (state g.S.Store c.delete.new.tx.conn.now).now c.args.shape.now c.args.key c.delete_text.result.now c.delete_text.ensures
+    (c.requires.writable h) (c.requires.ordered h)
     (rw key at (c.in-Ok.ensures.done h)) (c.in-Ok.ensures.unread h)
 
 pub returns-in-Ok-clause-ordered : goal.returns-in-Ok-clause-ordered
 returns-in-Ok-clause-ordered g c h =
     let key = to_z-of_z w64 c.args.key c.ranges.key in
-    delete_ordered (state g.S.Store c.args.tx.now.conn.now).now (state g.S.Store c.delete.new.tx.conn.now).now c.args.shape.now c.args.key c.delete_text.result.now c.delete_text.ensures (c.requires.writable h) (c.requires.ordered h)
+    delete_ordered (state g.S.Store c.args.tx.now.conn.now).now
+    (state g.S.Store c.delete.new.tx.conn.now).now c.args.shape.now c.args.key c.delete_text.result.now c.delete_text.ensures
+    (c.requires.writable h) (c.requires.ordered h)
     (rw key at (c.in-Ok.ensures.done h)) (c.in-Ok.ensures.unread h)
 
 pub returns-in-Ok-clause-schema : goal.returns-in-Ok-clause-schema
 returns-in-Ok-clause-schema g c h =
     let key = to_z-of_z w64 c.args.key c.ranges.key in
-    delete_schema (state g.S.Store c.args.tx.now.conn.now).now (state g.S.Store c.delete.new.tx.conn.now).now c.args.shape.now c.args.key c.delete_text.result.now c.delete_text.ensures (c.requires.writable h) (c.requires.ordered h)
+    delete_schema (state g.S.Store c.args.tx.now.conn.now).now
+    (state g.S.Store c.delete.new.tx.conn.now).now c.args.shape.now c.args.key c.delete_text.result.now c.delete_text.ensures
+    (c.requires.writable h) (c.requires.ordered h)
     (rw key at (c.in-Ok.ensures.done h)) (c.in-Ok.ensures.unread h)
 
 pub returns-in-Ok-clause-others : goal.returns-in-Ok-clause-others
 returns-in-Ok-clause-others g c h =
     let key = to_z-of_z w64 c.args.key c.ranges.key in
-    delete_others (state g.S.Store c.args.tx.now.conn.now).now (state g.S.Store c.delete.new.tx.conn.now).now c.args.shape.now c.args.key c.delete_text.result.now c.delete_text.ensures (c.requires.writable h) (c.requires.ordered h)
+    delete_others (state g.S.Store c.args.tx.now.conn.now).now
+    (state g.S.Store c.delete.new.tx.conn.now).now c.args.shape.now c.args.key c.delete_text.result.now c.delete_text.ensures
+    (c.requires.writable h) (c.requires.ordered h)
     (rw key at (c.in-Ok.ensures.done h)) (c.in-Ok.ensures.unread h)
 
 pub returns-in-Ok-clause-sure_rows : goal.returns-in-Ok-clause-sure_rows
 returns-in-Ok-clause-sure_rows g c h =
     let key = to_z-of_z w64 c.args.key c.ranges.key in
-    delete_rows (state g.S.Store c.args.tx.now.conn.now).now (state g.S.Store c.delete.new.tx.conn.now).now c.args.shape.now c.args.key c.delete_text.result.now c.delete_text.ensures h.writable h.ordered
+    delete_rows (state g.S.Store c.args.tx.now.conn.now).now
+    (state g.S.Store c.delete.new.tx.conn.now).now c.args.shape.now c.args.key c.delete_text.result.now c.delete_text.ensures
+    h.writable h.ordered
     (rw key at (c.in-Ok.ensures.sure_done h.after h.inside)) (c.in-Ok.ensures.sure_unread h.after h.inside)
 
 pub returns-in-Ok-clause-sure_steps : goal.returns-in-Ok-clause-sure_steps
@@ -39,11 +49,17 @@ returns-in-Ok-clause-sure_steps g c h =
     let key = to_z-of_z w64 c.args.key c.ranges.key in
     record {
       inside = c.in-Ok.ensures.sure_inside h.after h.inside;
-      schema = delete_schema (state g.S.Store c.args.tx.now.conn.now).now (state g.S.Store c.delete.new.tx.conn.now).now c.args.shape.now c.args.key c.delete_text.result.now c.delete_text.ensures h.writable h.ordered
+      schema = delete_schema (state g.S.Store c.args.tx.now.conn.now).now
+          (state g.S.Store c.delete.new.tx.conn.now).now c.args.shape.now c.args.key c.delete_text.result.now c.delete_text.ensures
+          h.writable h.ordered
           (rw key at (c.in-Ok.ensures.sure_done h.after h.inside)) (c.in-Ok.ensures.sure_unread h.after h.inside);
-      ordered = delete_ordered (state g.S.Store c.args.tx.now.conn.now).now (state g.S.Store c.delete.new.tx.conn.now).now c.args.shape.now c.args.key c.delete_text.result.now c.delete_text.ensures h.writable h.ordered
+      ordered = delete_ordered (state g.S.Store c.args.tx.now.conn.now).now
+          (state g.S.Store c.delete.new.tx.conn.now).now c.args.shape.now c.args.key c.delete_text.result.now c.delete_text.ensures
+          h.writable h.ordered
           (rw key at (c.in-Ok.ensures.sure_done h.after h.inside)) (c.in-Ok.ensures.sure_unread h.after h.inside);
-      others = delete_others (state g.S.Store c.args.tx.now.conn.now).now (state g.S.Store c.delete.new.tx.conn.now).now c.args.shape.now c.args.key c.delete_text.result.now c.delete_text.ensures h.writable h.ordered
+      others = delete_others (state g.S.Store c.args.tx.now.conn.now).now
+          (state g.S.Store c.delete.new.tx.conn.now).now c.args.shape.now c.args.key c.delete_text.result.now c.delete_text.ensures
+          h.writable h.ordered
           (rw key at (c.in-Ok.ensures.sure_done h.after h.inside)) (c.in-Ok.ensures.sure_unread h.after h.inside);
     }
 

@@ -23,7 +23,8 @@ loop-change-preserved-in_ok-push-in-Insert c =
     one_pushed c.loop-change.fresh.items c.push.new.self.items row x (search rules) (ap tuple c.in_ok-keyed-in-Insert.ensures.same) in
     record {
       fit = fit.1;
-      gone = gone_on c.loop-change.gone.items c.loop-change.gone.items (Inserts x) cs ds _ c.loop-change.invariant.gone ce (sym (append-nil c.loop-change.gone.items));
+      gone = gone_on c.loop-change.gone.items c.loop-change.gone.items (Inserts x) cs ds _ c.loop-change.invariant.gone ce (sym
+          (append-nil c.loop-change.gone.items));
       fresh = fresh_on c.loop-change.fresh.items c.push.new.self.items (Inserts x) cs ds _ c.loop-change.invariant.fresh ce pushed;
       placed = all_on (has_place t) _ _ x c.loop-change.invariant.placed pushed placed;
       holdable = all_on is_holdable _ _ x c.loop-change.invariant.holdable pushed c.in_ok-keyed-in-Insert.ensures.holdable;
@@ -43,11 +44,13 @@ loop-change-preserved-in_ok-push-in-Update-2 c =
     let placed : has_place t x ≡ true = c.in_ok-keyed-in-Update.ensures.placed t fit.0 in
     let key : c.push-in-Update.new.self.items ≡ c.loop-change.gone.items ++ key_for id ∷ [] = search rules in
     let pushed : map tuple c.push-in-Update-2.new.self.items ≡ map tuple c.loop-change.fresh.items ++ x ∷ [] =
-    one_pushed c.loop-change.fresh.items c.push-in-Update-2.new.self.items row x (search rules) (ap tuple c.in_ok-keyed-in-Update.ensures.same) in
+    one_pushed c.loop-change.fresh.items c.push-in-Update-2.new.self.items row x (search rules)
+    (ap tuple c.in_ok-keyed-in-Update.ensures.same) in
     record {
       fit = fit.1;
       gone = gone_on c.loop-change.gone.items c.push-in-Update.new.self.items (Updates id x) cs ds _ c.loop-change.invariant.gone ce key;
-      fresh = fresh_on c.loop-change.fresh.items c.push-in-Update-2.new.self.items (Updates id x) cs ds _ c.loop-change.invariant.fresh ce pushed;
+      fresh = fresh_on c.loop-change.fresh.items c.push-in-Update-2.new.self.items
+          (Updates id x) cs ds _ c.loop-change.invariant.fresh ce pushed;
       placed = all_on (has_place t) _ _ x c.loop-change.invariant.placed pushed placed;
       holdable = all_on is_holdable _ _ x c.loop-change.invariant.holdable pushed c.in_ok-keyed-in-Update.ensures.holdable;
       keyed = keyed_on _ (Updates id x) cs ds c.loop-change.invariant.keyed ce (has_its_key t x placed);
@@ -62,10 +65,9 @@ returns-in_err-keyed-in-Insert-clause-refused c =
     let ds = map change_is c.next.new.self.rest.items in
     let x = tuple c.in-Insert.row in
     let ce : cs ≡ Inserts x ∷ ds = search rules in
-    let fit = fit_on c.args.shape.now (Inserts x) cs ds c.loop-change.invariant.fit ce in
     let told : c.from_residual.result ≡ Err (Refused NotNull) = search rules in
     subst (λ r. IfErr r (IsKeyless (map change_is c.args.changes.items))) (sym told)
-    (refl, lacks cs (Inserts x) ds _ (search rules) ce (c.in_err-keyed-in-Insert.ensures.err.1 c.args.shape.now fit.0))
+    (refl, lacks cs (Inserts x) ds _ (search rules) ce (c.in_err-keyed-in-Insert.ensures.err.1))
 
 pub returns-in_err-keyed-in-Update-clause-refused : goal.returns-in_err-keyed-in-Update-clause-refused
 returns-in_err-keyed-in-Update-clause-refused c =
@@ -73,7 +75,6 @@ returns-in_err-keyed-in-Update-clause-refused c =
     let ds = map change_is c.next.new.self.rest.items in
     let x = tuple c.in-Update.row in
     let ce : cs ≡ Updates c.in-Update.id x ∷ ds = search rules in
-    let fit = fit_on c.args.shape.now (Updates c.in-Update.id x) cs ds c.loop-change.invariant.fit ce in
     let told : c.from_residual-in_err-keyed-in-Update.result ≡ Err (Refused NotNull) = search rules in
     subst (λ r. IfErr r (IsKeyless (map change_is c.args.changes.items))) (sym told)
-    (refl, lacks cs (Updates c.in-Update.id x) ds _ (search rules) ce (c.in_err-keyed-in-Update.ensures.err.1 c.args.shape.now fit.0))
+    (refl, lacks cs (Updates c.in-Update.id x) ds _ (search rules) ce (c.in_err-keyed-in-Update.ensures.err.1))

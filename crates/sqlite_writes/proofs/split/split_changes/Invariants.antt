@@ -12,9 +12,12 @@ use Rattle.sqlite_writes.proofs.split.split_changes.Given as goal
 abbrev pub invariant-loop-change : goal.invariant-loop-change
 invariant-loop-change l = record {
   fit : list_all (row_of_change_fits (kinds_in l.shape)) (map change_is l.change-iterator.rest.items) ≡ true;
-  gone : l.gone.items ++ keys_gone (map change_is l.change-iterator.rest.items) ≡ keys_gone (map change_is l.initial.change-iterator.rest.items);
-  fresh : map tuple l.fresh.items ++ rows_come (map change_is l.change-iterator.rest.items) ≡ rows_come (map change_is l.initial.change-iterator.rest.items);
+  gone : l.gone.items ++ keys_gone (map change_is l.change-iterator.rest.items) ≡ keys_gone
+      (map change_is l.initial.change-iterator.rest.items);
+  fresh : map tuple l.fresh.items ++ rows_come (map change_is l.change-iterator.rest.items) ≡ rows_come
+      (map change_is l.initial.change-iterator.rest.items);
   placed : list_all (has_place l.shape) (map tuple l.fresh.items) ≡ true;
   holdable : list_all is_holdable (map tuple l.fresh.items) ≡ true;
-  keyed : list_any lacks_key (map change_is l.initial.change-iterator.rest.items) ≡ list_any lacks_key (map change_is l.change-iterator.rest.items);
+  keyed : list_any lacks_key (map change_is l.initial.change-iterator.rest.items) ≡ list_any lacks_key
+      (map change_is l.change-iterator.rest.items);
 }
