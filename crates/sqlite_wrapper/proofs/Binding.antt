@@ -10,7 +10,7 @@ use Rattle.med_value.specs.declared.cause.Cause.TheVariants.{TableNotFound}
 use Rattle.fdw_api.specs.declared.interface.Fault.{Fault}
 use Rattle.fdw_api.specs.declared.interface.Fault.TheVariants.{NoMemory, Source, Refused}
 use Rattle.med_value.specs.declared.value.ColType.{ColType}
-use Rattle.sqlite_tables.specs.Prelude.{range_of, Layout, kinds_in, layout_at, layout_count, place_of, types_match, row_in, rows_in, least, greatest, tree_found, entry_of, rows_of, entries_at, OnlyBy, plain_rows, sqlite_reading, causes_of}
+use Rattle.sqlite_tables.specs.Prelude.{range_of, places, Layout, kinds_in, layout_at, layout_count, place_of, types_match, row_in, rows_in, least, greatest, tree_found, entry_of, rows_of, entries_at, OnlyBy, plain_rows, sqlite_reading, causes_of}
 use Rattle.fdw_api.specs.Prelude.{Column, OptionForm, Stored, Held, held, kinds_of, is_late, BoxTable, BoxState, CanBind, Binds, BindCause, IsLeast, Refuses, RefusesBind, Leaves, none_of, faults_after}
 use Rattle.sqlite_tables.proofs.Places.{place_named}
 use Rattle.sqlite_tables.proofs.Found.{found_is_read}
@@ -44,7 +44,7 @@ read_are db l declared m none = found none (go (tree_found db.schema l) none)
     go : (o : Option ℕ) → (sqlite_reading declared (option_map (λ t. Stored (kinds_in l) (map (λ r. r.cells) (rows_in l (db.trees t)))) o)).causes ≡ []
         → map held (rows_in l (entries_at db.trees o)) ≡ (sqlite_reading declared (option_map (λ t. Stored (kinds_in l) (map (λ r. r.cells) (rows_in l (db.trees t)))) o)).rows
     go None e = absurd (subst IsNone (sym e) tt)
-    go (Some t) e = sym (typed_rows l declared (range_of least greatest (db.trees t)) m)
+    go (Some t) e = sym (typed_rows l declared (range_of (places l) least greatest (db.trees t)) m)
 
     there : (o : Option ℕ) → (sqlite_reading declared (option_map (λ t. Stored (kinds_in l) (map (λ r. r.cells) (rows_in l (db.trees t)))) o)).causes ≡ [] → o ≢ None
     there None e = absurd (subst IsNone (sym e) tt)

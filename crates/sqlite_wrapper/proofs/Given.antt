@@ -49,12 +49,12 @@ fits_in s r = row_fits (kinds_in (layout_at s.table)) (page_cells (layout_at s.t
 
 -- a scan whose range is shut, or whose range the row's key is below or above, may not give it
 pub shut : (s : KeyScan) (r : SqlRow) → s.«open» ≡ false → may_be_next s r ≡ false
-shut s r off = third (is_row r) (fits_in s r) s.«open» (int_le s.low (key_in r)) (int_le (key_in r) s.high) off
+shut s r off = third (is_row (layout_at s.table) r) (fits_in s r) s.«open» (int_le s.low (key_in r)) (int_le (key_in r) s.high) off
 
 pub too_low : (s : KeyScan) (r : SqlRow) → key_in r <ℤ s.low → may_be_next s r ≡ false
 too_low s r less =
-    fourth (is_row r) (fits_in s r) s.«open» (int_le s.low (key_in r)) (int_le (key_in r) s.high) (under s.low (key_in r) less)
+    fourth (is_row (layout_at s.table) r) (fits_in s r) s.«open» (int_le s.low (key_in r)) (int_le (key_in r) s.high) (under s.low (key_in r) less)
 
 pub too_high : (s : KeyScan) (r : SqlRow) → s.high <ℤ key_in r → may_be_next s r ≡ false
 too_high s r more =
-    fifth (is_row r) (fits_in s r) s.«open» (int_le s.low (key_in r)) (int_le (key_in r) s.high) (under (key_in r) s.high more)
+    fifth (is_row (layout_at s.table) r) (fits_in s r) s.«open» (int_le s.low (key_in r)) (int_le (key_in r) s.high) (under (key_in r) s.high more)

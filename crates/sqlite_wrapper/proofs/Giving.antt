@@ -11,7 +11,7 @@ use Rattle.std.proofs.lemmas.Option.{same_Some}
 use Rattle.sqlite.specs.Effect.{Database}
 use Rattle.sqlite.specs.Order.{Row as SqlRow}
 use Rattle.sqlite.specs.Schema.{Schema}
-use Rattle.sqlite_tables.specs.Prelude.{range_of, key_of, Layout, layout_at, key_in, IsKnown, behind, entries_of}
+use Rattle.sqlite_tables.specs.Prelude.{range_of, places, key_of, Layout, layout_at, key_in, IsKnown, behind, entries_of}
 use Rattle.fdw_api.specs.Prelude.{Spec, GivenRow, first_of, shown_fits, Scan, BoxState, LeavesOthers, Breaks, GivesRow, GivesNone, bumped, faults_after, not_refused, row_of}
 use Rattle.fdw_api.specs.declared.interface.Fault.{Fault}
 use Rattle.med_value.specs.Datum.{tuple}
@@ -87,14 +87,14 @@ rest_of : (es : List SqlRow) (n : KeyScan) (key : ℤ) (r : SqlRow) → n.«open
 rest_of es n key r opened le next is = rw next (ap (λ (rs : List SqlRow). r ∷ rs) (go (int_lt key n.high) (lowest_passed n key opened le)))
   where
     go : (b : Bool) → lowest (passing n key b) ≡ key +ℤ pos 1
-        → ((drop (n.at + 1) n.page.items) ++ (if n.full then range_of (behind (key_in r +ℤ pos 1) (drop (n.at + 1) n.page.items)) n.high es else [])) ≡ to_come es (passing n key b)
-    go true e = ap (λ (z : ℤ). drop (n.at + 1) n.page.items ++ (if n.full then range_of (behind z (drop (n.at + 1) n.page.items)) n.high es else [])) (ap (λ (z : ℤ). z +ℤ pos 1) is ∙ sym e)
-    go false e = ap (λ (z : ℤ). drop (n.at + 1) n.page.items ++ (if n.full then range_of (behind z (drop (n.at + 1) n.page.items)) n.high es else [])) (ap (λ (z : ℤ). z +ℤ pos 1) is ∙ sym e)
+        → ((drop (n.at + 1) n.page.items) ++ (if n.full then range_of (places (layout_at n.table)) (behind (key_in r +ℤ pos 1) (drop (n.at + 1) n.page.items)) n.high es else [])) ≡ to_come es (passing n key b)
+    go true e = ap (λ (z : ℤ). drop (n.at + 1) n.page.items ++ (if n.full then range_of (places (layout_at n.table)) (behind z (drop (n.at + 1) n.page.items)) n.high es else [])) (ap (λ (z : ℤ). z +ℤ pos 1) is ∙ sym e)
+    go false e = ap (λ (z : ℤ). drop (n.at + 1) n.page.items ++ (if n.full then range_of (places (layout_at n.table)) (behind z (drop (n.at + 1) n.page.items)) n.high es else [])) (ap (λ (z : ℤ). z +ℤ pos 1) is ∙ sym e)
 
 -- no row stands behind the last key
-none_above : (high : ℤ) (es : List SqlRow) → range_of (high +ℤ pos 1) high es ≡ []
-none_above high [] = refl
-none_above high (e ∷ es) = rw (empty (key_of e)) (none_above high es)
+none_above : (shown : List ℕ) (high : ℤ) (es : List SqlRow) → range_of shown (high +ℤ pos 1) high es ≡ []
+none_above shown high [] = refl
+none_above shown high (e ∷ es) = rw (empty (key_of e)) (none_above shown high es)
   where
     empty : (k : ℤ) → between (high +ℤ pos 1) high k ≡ false
     empty k = grind (arith, ints)
@@ -109,9 +109,9 @@ at_end : (es : List SqlRow) (n : KeyScan) → is_spent n.room ≡ false → want
 at_end es n more read none = rw none (go n.full n.«open» (record { table = n.table; low = n.low; high = n.high }) (rw (more, drop_none n.page.items n.at none) at read))
   where
     go : (f o : Bool) (p : PageWanted) → (if false || (not f || not o) then None else Some p) ≡ None
-        → (if f then range_of (if o then n.low else n.high +ℤ pos 1) n.high es else []) ≡ []
+        → (if f then range_of (places (layout_at n.table)) (if o then n.low else n.high +ℤ pos 1) n.high es else []) ≡ []
     go true true p e = absurd cc
-    go true false p e = none_above n.high es
+    go true false p e = none_above (places (layout_at n.table)) n.high es
     go false o p e = refl
 
 pub passed_allows : (n s : KeyScan) (key : ℤ) → scan_is n ≡ scan_is s → is_allowed (scan_is s) ≡ true → (z : KeyScan) → Some (passed n key) ≡ Some z → is_allowed (scan_is z) ≡ true

@@ -13,7 +13,7 @@ use Rattle.sqlite.specs.Effect.{Database}
 use Rattle.sqlite.specs.Order.{Row as SqlRow}
 use Rattle.sqlite.specs.View.{IsShaped}
 use Rattle.sqlite_trees.specs.declared.store.Shape.TheVariants as shape
-use Rattle.sqlite_tables.specs.Prelude.{range_of, layout_at, layout_count, kinds_in, least, greatest, entries_of, rows_of}
+use Rattle.sqlite_tables.specs.Prelude.{range_of, places, layout_at, layout_count, kinds_in, least, greatest, entries_of, rows_of}
 use Rattle.wrapper_parts.specs.declared.ranges.KeyRange.{KeyRange}
 use Rattle.wrapper_parts.specs.Ranges.{is_key_value, is_apart, is_range_check, is_key_test, is_typed_check, asks_key, only_key_tests, only_keys}
 use Rattle.med_value.specs.Datum.{Datum, NoValue, Whole, Chars, Logic, Tuple, cell}
@@ -32,6 +32,7 @@ use Rattle.sqlite_wrapper.specs.Boxes.{allows, asked_of, is_allowed, is_by_key, 
 use Rattle.sqlite_wrapper.proofs.Maps.{mapped_get, mapped_insert, mapped_remove}
 use Rattle.sqlite_tables.proofs.PagesJoin.{between}
 use Rattle.sqlite_wrapper.proofs.Coming.{span_is, comes}
+use Rattle.sqlite_wrapper.proofs.Keys.{key_first, kinds_first}
 
 pub at_some : {X : Type 0} (o : Option X) → IsSome o → (x : X) × (o ≡ Some x)
 at_some None e = absurd cc
@@ -114,7 +115,10 @@ promised_is s order limit e f =
 
 -- what a start asks of the keys
 pub asks : (t : ℕ) (spec : Spec) (params : Tuple) → allows spec ≡ true → params_fit (kinds_in (layout_at t)) spec.offered params ≡ true → only_keys params spec.offered spec.answers ≡ true
-asks t spec params a fits = keys_fit ((layout_at t).second ∷ (layout_at t).third ∷ []) params spec.offered spec.answers (allowed_tests spec a) fits
+asks t spec params a fits =
+    let w = kinds_first t in
+    keys_fit w.0 params spec.offered spec.answers (allowed_tests spec a)
+    (subst (λ (k : List ColType). params_fit k spec.offered params ≡ true) w.1 fits)
 
 -- a table that is marked is bound
 pub marked_bound_is : (f : Bool) (t : ℕ) → IsSome (marked_bound f t) → marked_bound f t ≡ Some (bound_of t)
@@ -229,15 +233,15 @@ module _ (honest : Bool) (bound : List Bool) (staged : Option StagedWrite) where
     abbrev r : KeyRange
     r = begun.range
 
-    came : to_come (entries_of db (layout_at s.table)) s ≡ range_of (lowest s) s.high (entries_of db (layout_at s.table))
+    came : to_come (entries_of db (layout_at s.table)) s ≡ range_of (places (layout_at s.table)) (lowest s) s.high (entries_of db (layout_at s.table))
     came = rw (new.no_page, new.at_start, new.full) refl
 
-    gives : scan_rows db (Some s) ≡ first_of spec.limit (map (given_of spec (layout_at t)) (range_of (lowest s) s.high (entries_of db (layout_at t))))
+    gives : scan_rows db (Some s) ≡ first_of spec.limit (map (given_of spec (layout_at t)) (range_of (places (layout_at t)) (lowest s) s.high (entries_of db (layout_at t))))
     gives =
         ap (λ (rs : List SqlRow). first_of s.room (map (given_of (asked_of s) (layout_at s.table)) rs)) came
-        ∙ ap (λ (o : Option ℕ). first_of o (map (given_of (asked_of s) (layout_at s.table)) (range_of (lowest s) s.high (entries_of db (layout_at s.table))))) (new.room ∙ ap (λ (x : Spec). x.limit) new.spec_is)
-        ∙ ap (λ (x : Spec). first_of spec.limit (map (given_of x (layout_at s.table)) (range_of (lowest s) s.high (entries_of db (layout_at s.table))))) new.spec_is
-        ∙ ap (λ (q : ℕ). first_of spec.limit (map (given_of spec (layout_at q)) (range_of (lowest s) s.high (entries_of db (layout_at q))))) new.table
+        ∙ ap (λ (o : Option ℕ). first_of o (map (given_of (asked_of s) (layout_at s.table)) (range_of (places (layout_at s.table)) (lowest s) s.high (entries_of db (layout_at s.table))))) (new.room ∙ ap (λ (x : Spec). x.limit) new.spec_is)
+        ∙ ap (λ (x : Spec). first_of spec.limit (map (given_of x (layout_at s.table)) (range_of (places (layout_at s.table)) (lowest s) s.high (entries_of db (layout_at s.table))))) new.spec_is
+        ∙ ap (λ (q : ℕ). first_of spec.limit (map (given_of spec (layout_at q)) (range_of (places (layout_at q)) (lowest s) s.high (entries_of db (layout_at q))))) new.table
 
     low_is : lowest s ≡ (if s.open then r.low else r.high +ℤ pos 1)
     low_is = pick s.open s.low r.low s.high r.high new.low new.high
@@ -256,7 +260,7 @@ module _ (honest : Bool) (bound : List Bool) (staged : Option StagedWrite) where
     pub begun_coming : IsShaped shape.Table (entries_of db (layout_at t)) → IsComing (rows_of db (layout_at t)) spec params (scan_rows db (Some s))
     begun_coming shaped =
         subst (IsComing (rows_of db (layout_at t)) spec params) (sym gives)
-        (comes (layout_at t) spec (allowed_order spec allowed) params (lowest s) s.high (subst (λ (z : ℤ). least ≤ℤ z) (sym low_is) (above s.open)) (subst (λ (z : ℤ). z ≤ℤ greatest) (sym new.high) high_is) begun_keys (entries_of db (layout_at t)) shaped)
+        (comes (layout_at t) (key_first t) spec (allowed_order spec allowed) params (lowest s) s.high (subst (λ (z : ℤ). least ≤ℤ z) (sym low_is) (above s.open)) (subst (λ (z : ℤ). z ≤ℤ greatest) (sym new.high) high_is) begun_keys (entries_of db (layout_at t)) shaped)
 
     few_left : from_to (lowest s) s.high ≤ 2 ^ 64
     few_left = few_keys (lowest s) s.high (subst (λ (z : ℤ). least ≤ℤ z) (sym low_is) (above s.open)) (subst (λ (z : ℤ). z ≤ℤ greatest) (sym new.high) high_is)
@@ -328,5 +332,7 @@ module _ (honest : Bool) (bound : List Bool) (staged : Option StagedWrite) where
       subst (λ (z : Scan). marked_bound (slice_index_or bound z.table false) z.table ≡ Some can.bound) (sym same) can.is in
       let typed = subst (λ (z : Scan). params_fit can.bound.kinds z.spec.offered params ≡ true) (sym same) can.typed in
       let tests = allowed_tests (asked_of s) (and_parts (nat_lt s.table layout_count) (allows (asked_of s)) (all n s is)).1 in
-      keys_fit ((layout_at s.table).second ∷ (layout_at s.table).third ∷ []) params (spec_of s.spec).offered (spec_of s.spec).answers tests
-      (subst (λ (k : List ColType). params_fit k (spec_of s.spec).offered params ≡ true) (bound_kinds (slice_index_or bound s.table false) s.table can.bound at) typed)
+      let w = kinds_first s.table in
+      keys_fit w.0 params (spec_of s.spec).offered (spec_of s.spec).answers tests
+      (subst (λ (k : List ColType). params_fit k (spec_of s.spec).offered params ≡ true)
+      (bound_kinds (slice_index_or bound s.table false) s.table can.bound at ∙ w.1) typed)

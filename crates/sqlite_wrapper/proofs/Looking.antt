@@ -15,12 +15,13 @@ use Rattle.fdw_api.specs.Prelude.{Spec, KeyForm, TableRow, IsComing, first_of, g
 use Rattle.wrapper_parts.specs.Scans.{SoughtForm, sought, has_sought, rows_taken}
 use Rattle.wrapper_parts.proofs.Taking.{taken_comes}
 use Rattle.sqlite_tables.specs.Prelude.{Layout, layout_at, row_in, rows_in, least, greatest, entries_of, rows_of, IsLookup, has_value, rows_with}
-use Rattle.sqlite_tables.proofs.PagesJoin.{between}
+use Rattle.sqlite_tables.proofs.PagesJoin.{Ints, between}
 use Rattle.sqlite_tables.specs.declared.reading.Lookup.{Lookup}
 use Rattle.sqlite_wrapper.specs.declared.scans.KeyScan.{KeyScan}
 use Rattle.sqlite_wrapper.specs.Boxes.{Sets, IsBegun, allows, asked_of, is_by_key, lowest, scan_is, scan_rows, given_of}
 use Rattle.sqlite_wrapper.specs.Looks.{Looks, AllLook, IsFree, LooksFor, IsFilled, IsAnswered}
 use Rattle.sqlite_wrapper.proofs.Coming.{same, shows}
+use Rattle.sqlite_wrapper.proofs.Keys.{HasKeyFirst, key_first}
 use Rattle.sqlite_wrapper.specs.Pages.{passed}
 use Rattle.sqlite_wrapper.proofs.LiveScans.{Fresh, if_some, allowed_order, begun_keys, begun_coming}
 
@@ -79,7 +80,7 @@ no_promise : (order : List KeyForm) (limit : Option ℕ) (spec : Spec) → order
 no_promise order limit spec e f = rw (e, f) refl
 
 -- a scan of all keys takes each row that has what it looks for
-module _ (l : Layout) (spec : Spec) (params : Tuple) (by_key : is_by_key spec.order ≡ true)
+module _ (l : Layout) (first : HasKeyFirst l) (spec : Spec) (params : Tuple) (by_key : is_by_key spec.order ≡ true)
     (keys : (k : ℤ) (rest : Tuple) → FitsSigned w64 k → between least greatest k ≡ meets_exact spec.offered spec.answers params (Whole k ∷ rest)) where
   least_low : least ≤ℤ least
   least_low = omega (arith, ints)
@@ -90,20 +91,20 @@ module _ (l : Layout) (spec : Spec) (params : Tuple) (by_key : is_by_key spec.or
   abbrev exact : TableRow → Bool
   exact r = meets_exact spec.offered spec.answers params r.cells
 
-  all_exact : (entries : List SqlRow) → filter exact (rows_in l entries) ≡ rows_in l entries
-  all_exact entries = same l spec by_key params least greatest least_low greatest_high keys entries
+  all_exact : (entries : List SqlRow) → Ints entries → filter exact (rows_in l entries) ≡ rows_in l entries
+  all_exact entries ints_are = same l first spec by_key params least greatest least_low greatest_high keys entries ints_are
 
-  taken : (entries : List SqlRow) (form : SoughtForm) → sought spec.offered ≡ Some form → rows_taken spec params (rows_in l entries) ≡ rows_with l form.column (cell params form.parameter) entries
-  taken entries form is =
+  taken : (entries : List SqlRow) → Ints entries → (form : SoughtForm) → sought spec.offered ≡ Some form → rows_taken spec params (rows_in l entries) ≡ rows_with l form.column (cell params form.parameter) entries
+  taken entries ints_are form is =
       ap (λ (o : Option SoughtForm). filter (λ r. has_sought o params r.cells && exact r) (rows_in l entries)) is
       ∙ filter_both (has_value form.column (cell params form.parameter)) exact (rows_in l entries)
-      ∙ ap (filter (has_value form.column (cell params form.parameter))) (all_exact entries)
+      ∙ ap (filter (has_value form.column (cell params form.parameter))) (all_exact entries ints_are)
 
-  pub found_comes : (entries page : List SqlRow) (form : SoughtForm) → is_unpromised spec ≡ true → sought spec.offered ≡ Some form
+  pub found_comes : (entries page : List SqlRow) → Ints entries → (form : SoughtForm) → is_unpromised spec ≡ true → sought spec.offered ≡ Some form
       → map (row_in l) page ≡ rows_with l form.column (cell params form.parameter) entries → IsComing (rows_in l entries) spec params (map (given_of spec l) page)
-  found_comes entries page form free is found =
+  found_comes entries page ints_are form free is found =
       subst (IsComing (rows_in l entries) spec params)
-      (ap (map (given_row spec)) (taken entries form is ∙ sym found) ∙ sym (shows l spec by_key params least greatest least_low greatest_high keys page))
+      (ap (map (given_row spec)) (taken entries ints_are form is ∙ sym found) ∙ sym (shows l first spec by_key params least greatest least_low greatest_high keys page))
       (taken_comes (rows_in l entries) spec params free)
 
 -- a scan as it is asked for
@@ -134,7 +135,7 @@ module _ (db : Database) (s : KeyScan) (begun : IsBegun s s.table (asked_of s) (
       let free = f.looks.free in
       let page = n.page.items in
       let unpromised : is_unpromised (asked_of s) ≡ true = no_promise (map key_form s.order.items) s.limit (asked_of s) (ap (map key_form) free.no_order) free.no_limit in
-      let comes = found_comes l (asked_of s) params (allowed_order (asked_of s) allowed) (free_keys free) es page f.form unpromised f.looks.is f.page_is in
+      let comes = found_comes l (key_first s.table) (asked_of s) params (allowed_order (asked_of s) allowed) (free_keys free) es page shaped.1 f.form unpromised f.looks.is f.page_is in
       let room : s.room ≡ None = begun.new.room ∙ free.no_limit in
       let start : s.at ≡ 0 = begun.new.at_start in
       let rows : scan_rows db (Some (record s { page = n.page; full = false; lookup = n.lookup })) ≡ map (given_of (asked_of s) l) page =

@@ -8,7 +8,7 @@ use Rattle.std.specs.Int.{w64}
 use borrow.Author.Differences.{up, down}
 use Rattle.sqlite.specs.Effect.{Database}
 use Rattle.sqlite.specs.Order.{Row as SqlRow}
-use Rattle.sqlite_tables.specs.Prelude.{range_of, entries_of, rows_of, entry_of, behind, Layout, kinds_in, layout_at, layout_count, place_of, row_in}
+use Rattle.sqlite_tables.specs.Prelude.{range_of, entries_of, rows_of, entry_of, behind, Layout, kinds_in, layout_at, layout_count, place_of, places, row_in}
 use Rattle.wrapper_parts.specs.Ranges.{has_key, only_key_tests, plain_is_allowed}
 use Rattle.wrapper_parts.specs.declared.ranges.KeyRange.{KeyRange}
 use Rattle.med_value.specs.Datum.{Whole, Tuple, datum}
@@ -86,7 +86,7 @@ unread s = drop s.at s.page.items
 
 -- the rows that a scan has still to give: those of its page, and behind a full page those of the keys behind it
 abbrev pub to_come : List SqlRow → KeyScan → List SqlRow
-to_come entries s = unread s ++ (if s.full then range_of (behind (lowest s) (unread s)) s.high entries else [])
+to_come entries s = unread s ++ (if s.full then range_of (places (layout_at s.table)) (behind (lowest s) (unread s)) s.high entries else [])
 
 abbrev pub given_of : Spec → Layout → SqlRow → GivenRow
 given_of spec l r = given_row spec (row_in l r)

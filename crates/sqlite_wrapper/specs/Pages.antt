@@ -38,7 +38,7 @@ pub record Turns (honest : Bool) (entries : List SqlRow) (old new : KeyScan) : T
 -- whether a row of a page is one of its table's types, of a key that may come
 abbrev pub may_be_next : KeyScan → SqlRow → Bool
 may_be_next s r =
-    is_row r && row_fits (kinds_in (layout_at s.table)) (page_cells (layout_at s.table) r)
+    is_row (layout_at s.table) r && row_fits (kinds_in (layout_at s.table)) (page_cells (layout_at s.table) r)
     && s.«open» && int_le s.low (key_in r) && int_le (key_in r) s.high
 
 -- the next row of the page, where it has one, may not come

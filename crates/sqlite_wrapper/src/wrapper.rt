@@ -1,5 +1,5 @@
 //! A SQLite database as a source of foreign tables.
-ghost use Rattle.std.specs.Prelude.{◌≡◌, ◌≤◌, ◌&&◌, ◌⊎◌, OnOk, ℕ, true, false, length, map, None, Some, IsTrue, IsSome, IfOk, IfErr, is_some, option_map};
+ghost use Rattle.std.specs.Prelude.{◌≡◌, ◌≤◌, ◌&&◌, ◌⊎◌, OnOk, ℕ, true, false, length, map, None, Some, IsTrue, IsSome, IfOk, IfErr, IfSome, is_some, option_map};
 ghost use Rattle.std.specs.Ordering.{nat_cmp};
 ghost use Rattle.std.specs.BTreeMap as tree;
 ghost use Rattle.sqlite.specs.Held.{state};
@@ -165,7 +165,8 @@ impl<S: SourceStore + Drop> SqliteWrapper<S> {
 impl<S: SourceStore + Drop> Wrapper for SqliteWrapper<S> {
     ghost use Rattle.fdw_api.specs.Prelude.{spec_by, table_of, CanBind, Binds, RefusesBind, Allows, CanBegin, Begins, RefusesBegin, IsOpen, Iterates, Breaks, CanRescan, Rescans, column_of, option_form, CanClose, Closes, RefusesClose};
     ghost use Rattle.sqlite_tables.specs.Steady.{IsSteady};
-    ghost use Rattle.sqlite_wrapper.specs.Clean.{AreKnown, MayBeKept};
+    ghost use Rattle.sqlite_wrapper.specs.Clean.{AreKnown, AreWritable, MayBeKept};
+    ghost use Rattle.sqlite_wrapper.specs.Failing.{FailsToWrite};
 
     ghost meaning = { λ w. sqlite_state S.honest (state S.Store w.conn).now w.bound.items w.scans w.staged w.next w.pulled w.faults };
 
@@ -440,7 +441,8 @@ impl<S: SourceStore + Drop> Wrapper for SqliteWrapper<S> {
 
     /// Where its store is steady as it begins and as it ends, and the write may be kept (`MayBeKept`), it does what `Wrapper::end_modify`
     /// says of an honest box that holds what the database holds: nobody knows what a disk returns, but such a store has returned what was
-    /// written.
+    /// written. Each failure is one of `FailsToWrite`: the source has failed only where the files are not those that were opened, the table
+    /// cannot be read, or the connection reported an error that is neither a repeated key nor out of memory.
     fn end_modify(&mut self, alloc: Global, keep: bool) -> Result<(), Fault>
         requires { CanClose (sqlite_state S.honest (state S.Store self.old.conn).now
             self.old.bound.items self.old.scans self.old.staged self.old.next self.old.pulled self.old.faults) keep }
@@ -464,6 +466,13 @@ impl<S: SourceStore + Drop> Wrapper for SqliteWrapper<S> {
             self.old.bound.items self.old.scans self.old.staged self.old.next self.old.pulled self.old.faults) keep fault
             (sqlite_state true (state S.Store self.new.conn).now
             self.new.bound.items self.new.scans self.new.staged self.new.next self.new.pulled self.new.faults)) }
+        ensures reported { S.honest ≡ true → IfErr result (λ fault. IfSome (option_map write_is self.old.staged)
+            (λ w. FailsToWrite S.Store S.honest (layout_at w.table) w.changes self.old.watch self.new.watch
+            (state S.Store self.old.conn) (state S.Store self.new.conn) fault)) }
+        ensures clean_reported { IsSteady (S.Store.view self.old.conn.store) → IsSteady (S.Store.view self.new.conn.store)
+            → AreWritable self.old.conn.schema → IfErr result (λ fault. IfSome (option_map write_is self.old.staged)
+            (λ w. FailsToWrite S.Store S.honest (layout_at w.table) w.changes self.old.watch self.new.watch
+            (state S.Store self.old.conn) (state S.Store self.new.conn) fault)) }
         ensures looked { (self.new.conn ≡ self.old.conn) ⊎ Looks self.old.watch self.new.watch true }
         ensures seen { keep ≡ true → OnOk result (Looks self.old.watch self.new.watch true) }
     {

@@ -45,7 +45,7 @@ returns-in-Ok-clause-turned g c =
         lookup = refl;
         rows = λ h.
             turned_rows (state g.S.Store c.args.conn.now).now c.shape_of-shape.result.now c.in-Some.wanted.low c.in-Some.wanted.high w.0 n c.in-Ok.page.items
-            (record { page = refl; at_start = refl; full = refl; low = refl; high = refl; open_is = refl }) (c.shape_of-shape.ensures ∙ ap layout_at v.0) v.1 v.2 v.3 v.4 v.5 (rw (a, b) at (c.in-Ok.ensures.joins h));
+            (record { table = refl; page = refl; at_start = refl; full = refl; low = refl; high = refl; open_is = refl }) (c.shape_of-shape.ensures ∙ ap layout_at v.0) v.1 v.2 v.3 v.4 v.5 (rw (a, b) at (c.in-Ok.ensures.joins h));
         read = turned_read n c.in-Ok.page.items refl refl refl;
       },
     )
@@ -80,7 +80,7 @@ returns-in-Ok-clause-sure_turned g c =
         lookup = refl;
         rows = λ h.
             turned_rows (state g.S.Store c.args.conn.now).now c.shape_of-shape.result.now c.in-Some.wanted.low c.in-Some.wanted.high w.0 n c.in-Ok.page.items
-            (record { page = refl; at_start = refl; full = refl; low = refl; high = refl; open_is = refl }) (c.shape_of-shape.ensures ∙ ap layout_at v.0) v.1 v.2 v.3 v.4 v.5
+            (record { table = refl; page = refl; at_start = refl; full = refl; low = refl; high = refl; open_is = refl }) (c.shape_of-shape.ensures ∙ ap layout_at v.0) v.1 v.2 v.3 v.4 v.5
             (rw (a, b) at (c.in-Ok.ensures.sure_joins (subst (λ (l : Layout). IsSure (state g.S.Store c.args.conn.now) (state g.S.Store c.page_between.new.conn) l) (sym (c.shape_of-shape.ensures ∙ ap layout_at v.0)) sure)));
         read = turned_read n c.in-Ok.page.items refl refl refl;
       },

@@ -3,6 +3,7 @@ use Rattle.sqlite.specs.Held.{state}
 use Rattle.sqlite.specs.Effect.{Database}
 use Rattle.sqlite_tables.specs.Prelude.{rows_of, tree_found}
 use Rattle.sqlite_tables.proofs.Settled.{known_after, reads_then, sure_first, sure_then, sure_same}
+use Rattle.sqlite_wrapper.proofs.Failures.{counts_or_fails}
 use Rattle.sqlite_wrapper.proofs.Sure.{on_ok}
 use Rattle.sqlite_wrapper.proofs.writing.rows_there.Goals as goal
 
@@ -30,3 +31,8 @@ returns-in-None-clause-sure_count g c h held =
 
 pub returns-in-None-clause-reads : goal.returns-in-None-clause-reads
 returns-in-None-clause-reads g c = reads_then c.find_table.ensures.reads c.count_rows.ensures.reads
+
+pub returns-in-None-clause-reported : goal.returns-in-None-clause-reported
+returns-in-None-clause-reported g c =
+    counts_or_fails g.S.Store g.S.SourceStore.honest c.args.shape.now c.args.conn.now c.count_rows.new.conn c.count_rows.result (state g.S.Store c.find_table.new.conn)
+    c.find_table.ensures.reads c.count_rows.ensures.reads c.find_table.ensures.same c.count_rows.ensures.reported

@@ -41,3 +41,9 @@ returns-clause-sure_refused g c = rw c.shape_of-shape.ensures at c.write_shape.e
 
 pub returns-clause-sure_same : goal.returns-clause-sure_same
 returns-clause-sure_same g c = rw c.shape_of-shape.ensures at c.write_shape.ensures.sure_same
+
+pub returns-clause-reported : goal.returns-clause-reported
+returns-clause-reported g c = rw c.shape_of-shape.ensures at c.write_shape.ensures.reported
+
+pub returns-clause-sure_reported : goal.returns-clause-sure_reported
+returns-clause-sure_reported g c = rw c.shape_of-shape.ensures at c.write_shape.ensures.sure_reported
