@@ -1,11 +1,10 @@
 //! A page of a table, by a text that was looked at.
-ghost use Rattle.std.specs.Prelude.{◌≡◌, ℕ, List, [], ◌∷◌, true, false, take, Err, None, IsTrue, IfOk, IfErr, IfSome, OnOk};
-ghost use Rattle.sqlite.specs.State.{FailsToQuery, HasCleanDisk};
+ghost use Rattle.std.specs.Prelude.{◌≡◌, ℕ, List, true, false, take, Err, None, IsTrue, IfOk, IfErr, IfSome, OnOk};
+ghost use Rattle.sqlite.specs.State.{HasCleanDisk};
 ghost use Rattle.sqlite.specs.Held.{state};
 ghost use Rattle.sqlite.specs.Listing.{understood};
 ghost use Rattle.sqlite.specs.View.{IsShaped};
 ghost use Rattle.sqlite.specs.declared.error.Error.TheVariants.{SqlInputError};
-ghost use Rattle.sqlite.specs.declared.types.Value.TheVariants.{Int};
 ghost use Rattle.sqlite_trees.specs.declared.store.Shape.TheVariants as shape;
 ghost use Rattle.sqlite_looks.specs.Pages.{IsPageText, range_of};
 ghost use Rattle.sqlite_looks.specs.Looks.{means_page};
@@ -18,8 +17,7 @@ use std::alloc::Global;
 
 /// The first rows of a key range of a table, in key order, by its page text: of each row the columns at some places.
 ///
-/// It changes nothing, also where it fails. Where the text is understood it is not refused as a text that is not. It fails with the error
-/// that the connection reported of this text. A disk that is clean, and open, as it ends was so as it began.
+/// It changes nothing, also where it fails. Where the text is understood it is not refused as a text that is not.
 pub fn page<S: Alter>(
     conn: &mut Connection<S>,
     text: &str,
@@ -41,10 +39,6 @@ pub fn page<S: Alter>(
     ensures unread { HasCleanDisk (state S.Store conn.new) → IsTrue (state S.Store conn.new).is_open → (fault : _)
         → understood (state S.Store conn.old).now.schema text.now ≡ Err fault
         → ((state S.Store conn.new).now ≡ (state S.Store conn.old).now) × OnOk result ⊥ }
-    ensures reported { HasCleanDisk (state S.Store conn.new)
-        → IfErr result (FailsToQuery text.now (Int low ∷ Int high ∷ []) (state S.Store conn.old) (state S.Store conn.new)) }
-    ensures was_clean { HasCleanDisk (state S.Store conn.new) → IsTrue (state S.Store conn.new).is_open
-        → HasCleanDisk (state S.Store conn.old) × IsTrue (state S.Store conn.old).is_open }
     ensures idle { conn.new.in_transaction ≡ false }
 {
     let _idle = conn.is_autocommit();

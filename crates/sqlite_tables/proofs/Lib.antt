@@ -10,5 +10,5 @@ pub mod Found
 pub mod StoreTables
 pub mod Surveying
 pub mod Opened
-pub mod Columns
+pub mod ColumnReads
 pub mod Singles

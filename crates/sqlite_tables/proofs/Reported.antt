@@ -1,7 +1,38 @@
 -- What a failure to read a table says of the errors that were reported, and of the table.
 use Rattle.std.proofs.Common.{
-  ◌≡◌, ◌≢◌, ◌⊎◌, inl, inr, ℕ, ℤ, zero, suc, Bool, true, false, ◌&&◌, nat_lt, List, [], ◌∷◌, map, filter, take, length, IsTrue, Result, Ok, Err, IfErr,
-  Contains, refl, ap, sym, ◌∙◌, subst, arith,
+  ◌≡◌,
+  ◌≢◌,
+  ◌⊎◌,
+  inl,
+  inr,
+  ℕ,
+  ℤ,
+  zero,
+  suc,
+  Bool,
+  true,
+  false,
+  ◌&&◌,
+  nat_lt,
+  List,
+  [],
+  ◌∷◌,
+  map,
+  filter,
+  take,
+  length,
+  IsTrue,
+  Result,
+  Ok,
+  Err,
+  IfErr,
+  Contains,
+  refl,
+  ap,
+  sym,
+  ◌∙◌,
+  subst,
+  arith,
 }
 use Rattle.std.proofs.lemmas.List.{length-map}
 use Rattle.std.specs.List.{AllByRecursion, list_all}
@@ -58,14 +89,15 @@ module _ (l : Layout) (all : is_paged l ≡ true) where
   rows_are [] h = refl
   rows_are (r ∷ es) h = both_are _ _ (row_is r h.0) (rows_are es h.1)
 
+  first_and : (b c d : Bool) → (c ≡ true → d ≡ true) → (b && c) ≡ true → (b && d) ≡ true
+  first_and true c d up e = up e
+  first_and false c d up e = absurd (cc)
+
   first_are : (n : ℕ) (rows : List SqlRow) → list_all (is_row l) rows ≡ true → list_all (is_row l) (take n rows) ≡ true
   first_are zero rows h = refl
   first_are (suc n) [] h = refl
-  first_are (suc n) (r ∷ rows) h = go (is_row l r) refl h
-    where
-      go : (b : Bool) → is_row l r ≡ b → (b && list_all (is_row l) rows) ≡ true → (is_row l r && list_all (is_row l) (take n rows)) ≡ true
-      go true e more = both_are _ _ e (first_are n rows more)
-      go false e more = absurd (cc)
+  first_are (suc n) (r ∷ rows) h =
+      first_and (is_row l r) (list_all (is_row l) rows) (list_all (is_row l) (take n rows)) (λ more. first_are n rows more) h
 
   page_is : (low high : ℤ) (es : List SqlRow) → IsShaped shape.Table es → list_all (is_row l) (take 64 (range_of (places l) low high es)) ≡ true
   page_is low high es shaped =
@@ -88,9 +120,9 @@ pub content_reported : (first : Fault → Type 0) (honest : Bool) (l : Layout) (
     → (m ≢ misread.NoMemory → f ≢ NoMemory) → (f ≡ Source → m ≡ misread.NoRow) → OnlyBy (λ c. (c ≡ InvalidText) × (m ≡ misread.Stray)) f
     → (m ≡ misread.NoRow → (honest ≡ true → Reason) × (IsSure old new l → Reason))
     → first f ⊎ (f ≡ Refused InvalidText) ⊎ IsSourceFor honest l old new Reason f
-content_reported first honest l old new Reason m NoMemory no memory source by why = absurd (memory no refl)
-content_reported first honest l old new Reason m Source no memory source by why = let w = why (source refl) in inr (inr (refl, w.0, w.1))
-content_reported first honest l old new Reason m (Refused c) no memory source by why = inr (inl (ap Refused by.0))
+content_reported first honest l old new Reason m NoMemory other memory source by why = absurd (memory other refl)
+content_reported first honest l old new Reason m Source other memory source by why = let w = why (source refl) in inr (inr (refl, w.0, w.1))
+content_reported first honest l old new Reason m (Refused c) other memory source by why = inr (inl (ap Refused by.0))
 
 module _ {S : Type 0} (g : Ghosts S) (honest : Bool) (l : Layout) (old : State) (mid : Held S) (new : State) where
   -- a page that is not read, after pages that were
@@ -107,10 +139,8 @@ ReadsNot g honest l old new f =
     FailsToRead g l old new f ⊎ (f ≡ Refused InvalidText) ⊎ (f ≡ Refused TooLarge) ⊎ IsSourceFor honest l old new (is_paged l ≡ false) f
 
 has_none : (cs : List Cause) (c : Cause) → Contains cs c → cs ≢ []
-has_none cs c h none = absurd (no_first (subst (λ (xs : List Cause). Contains xs c) none h))
-  where
-    no_first : Contains {A = Cause} [] c → ⊥
-    no_first (k, lt, is) = omega (arith, lt)
+has_none [] c (k, lt, is) none = omega (arith, lt)
+has_none (d ∷ cs) c h none = cc
 
 module _ {S : Type 0} (g : Ghosts S) (honest : Bool) (l : Layout) (old new : State) where
   pub memory_reported : (f : Fault) → f ≡ NoMemory → ReadsNot g honest l old new f → FailsToCount g honest l old new NoMemory

@@ -1,6 +1,25 @@
 -- The remote tables of a SQLite source: their names, columns, places and texts.
 use Rattle.std.specs.Prelude.{
-  ℕ, Bool, true, false, not, ◌&&◌, nat_eq, List, [], ◌∷◌, map, filter, length, Option, Some, None, slice_get, slice_index_or, codes, bytes_eq,
+  ℕ,
+  Bool,
+  true,
+  false,
+  not,
+  ◌&&◌,
+  nat_eq,
+  List,
+  [],
+  ◌∷◌,
+  map,
+  filter,
+  length,
+  Option,
+  Some,
+  None,
+  slice_get,
+  slice_index_or,
+  codes,
+  bytes_eq,
 }
 use Rattle.std.specs.List.{position}
 use Rattle.med_value.specs.declared.value.ColType.{ColType}

@@ -1,6 +1,23 @@
 -- What the texts of a table mean under a schema: those that read a page of it, take a row out, and put one in.
 use Rattle.std.specs.Prelude.{
-  ◌≡◌, ℕ, ◌+◌, Bool, true, false, List, [], ◌∷◌, map, length, Option, Some, None, Err, slice_get, slice_index_or, if◌then◌else◌,
+  ◌≡◌,
+  ℕ,
+  ◌+◌,
+  Bool,
+  true,
+  false,
+  List,
+  [],
+  ◌∷◌,
+  map,
+  length,
+  Option,
+  Some,
+  None,
+  Err,
+  slice_get,
+  slice_index_or,
+  if◌then◌else◌,
 }
 use Rattle.med_value.specs.declared.value.ColType.{ColType}
 use Rattle.med_value.specs.declared.value.ColType.TheVariants as types

@@ -1,5 +1,5 @@
 //! Stored cells as values.
-ghost use Rattle.std.specs.Prelude.{◌≡◌, ◌≢◌, ◌≤◌, true, false, Some, None, map, length, IfOk, IfErr, IfSome};
+ghost use Rattle.std.specs.Prelude.{◌≡◌, ◌≢◌, ◌≤◌, ◌++◌, [], ◌∷◌, true, false, Some, None, map, length, IfOk, IfErr, IfSome, OnOk};
 ghost use Rattle.sqlite.specs.Order.{column};
 ghost use Rattle.med_value.specs.Prelude.{datum, tuple};
 ghost use Rattle.fdw_api.specs.Prelude.{cell_fits, row_fits};
@@ -108,6 +108,13 @@ fn key_at(row: &Row) -> Option<i64>
     }
 }
 
+fn push(values: &mut Vec<Value>, value: Value) -> Result<(), AllocError>
+    ensures { OnOk result (map datum values.new.items ≡ map datum values.old.items ++ datum value ∷ []) }
+{
+    values.push(value)?;
+    Ok(())
+}
+
 // The values of columns in a row of a page.
 fn values_at(alloc: Global, columns: &[PageColumn], row: &Row) -> Result<Vec<Value>, Misread>
     ensures values { IfOk result (λ values. map datum values.items ≡ cells_at columns.now row.now) }
@@ -120,7 +127,7 @@ fn values_at(alloc: Global, columns: &[PageColumn], row: &Row) -> Result<Vec<Val
     let mut left = columns;
     while let Some((column, others)) = left.split_first() {
         match cell(alloc, column.kind, row, column.place) {
-            Ok(value) => values.push(value)?,
+            Ok(value) => push(&mut values, value)?,
             Err(misread) => return Err(misread),
         }
         left = others;

@@ -15,6 +15,7 @@ pub mod reading;
 pub mod rows;
 pub mod shapes;
 pub mod steady;
+mod store_pages;
 pub mod surveys;
 pub mod tables;
 

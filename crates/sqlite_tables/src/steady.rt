@@ -10,9 +10,9 @@ ghost use Rattle.sqlite_tables.specs.Reporting.{ReportsPage};
 ghost use Rattle.sqlite_tables.specs.Steady.{IsSteady, IsCleanAfter};
 ghost use Rattle.sqlite_tables.specs.Texts.{IsPageOf, page_size};
 
+use crate::store_pages::page;
 use sqlite::{Alter, Connection, Error, FileStore, MemStore, Row};
 use sqlite_disk::Disk;
-use sqlite_looks::page;
 
 /// A store of a database that is a source.
 ///

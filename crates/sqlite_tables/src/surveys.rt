@@ -185,6 +185,7 @@ pub fn count_rows<S: SourceStore>(conn: &mut Connection<S>, shape: &Shape) -> Re
     match read_whole(conn, shape) {
         Ok(count) => Ok(count),
         Err(Fault::NoMemory) => Err(Fault::NoMemory),
-        Err(_) => Err(Fault::Source),
+        Err(Fault::Source) => Err(Fault::Source),
+        Err(Fault::Refused(_)) => Err(Fault::Source),
     }
 }

@@ -1,8 +1,8 @@
-use Rattle.std.proofs.Common.{rules, arith, ◌≡◌, ◌∙◌, ap, not, IsTrue}
+use Rattle.std.proofs.Common.{rules, ◌≡◌, ◌∙◌, ap, not, IsTrue}
 use Rattle.sqlite.specs.declared.types.Value.TheVariants.{Int}
 use Rattle.sqlite_value.specs.Value.{owned}
 use Rattle.sqlite.specs.Held.{state}
-use Rattle.sqlite_looks.proofs.PageLemmas.{pages_if, same_if, understood_if, unread, was_open}
+use Rattle.sqlite_looks.proofs.PageLemmas.{pages_if, same_if, understood_if, unread}
 use Rattle.sqlite_looks.proofs.reading.page.Goals as goal
 
 pub returns-clause-rows : goal.returns-clause-rows
@@ -42,17 +42,3 @@ returns-clause-unread g c clean up fault bad =
     let yes : IsTrue c.is_autocommit-idle.result = idle.value ∙ ap not c.requires.idle in
     unread c.args.text.now c.args.low c.args.high (state g.S.Store c.args.conn.now)
     (state g.S.Store c.query_all.new.self) fault bad c.query_all.result (idle.settled yes) up h k
-
-pub returns-clause-reported : goal.returns-clause-reported
-returns-clause-reported g c clean =
-    let a : owned c.params-to_sql.result ≡ Int c.args.low = search rules in
-    let b : owned c.params-to_sql-2.result ≡ Int c.args.high = search rules in
-    rw (a, b) at (c.query_all.ensures.err clean)
-
-pub returns-clause-was_clean : goal.returns-clause-was_clean
-returns-clause-was_clean g c clean up =
-    let least = c.query_all.ensures.survives.clean in (
-      omega (arith, least, clean),
-      was_open c.args.text.now _ (state g.S.Store c.args.conn.now) (state g.S.Store c.query_all.new.self) c.query_all.result up
-          (c.query_all.ensures.ok clean) (c.query_all.ensures.err clean),
-    )

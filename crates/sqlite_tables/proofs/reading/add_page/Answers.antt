@@ -1,6 +1,6 @@
 use Rattle.std.proofs.Common.{◌∙◌, Some, FitsSigned, w64, ap, sym, rules, refl, arith}
 use Rattle.std.proofs.lemmas.Int.{to_z-of_z}
-use Rattle.sqlite_tables.proofs.Columns.{adds_none, row_more}
+use Rattle.sqlite_tables.proofs.ColumnReads.{adds_none, row_more}
 use Rattle.sqlite_tables.proofs.reading.add_page.Goals as goal
 
 pub loop-row-init : goal.loop-row-init

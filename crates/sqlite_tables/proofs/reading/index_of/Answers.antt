@@ -1,7 +1,7 @@
 use Rattle.std.proofs.Common.{◌≡◌, ◌+◌, ℕ, List, ◌∷◌, map, length, rules, subst}
 use Rattle.med_value.specs.Datum.{Datum, datum}
 use Rattle.wrapper_parts.specs.Indexes.{IsIndexFrom}
-use Rattle.sqlite_tables.proofs.Columns.{taken_more}
+use Rattle.sqlite_tables.proofs.ColumnReads.{taken_more}
 use Rattle.sqlite_tables.proofs.reading.index_of.Goals as goal
 
 pub loop-value-preserved : goal.loop-value-preserved

@@ -3,7 +3,7 @@ use Rattle.std.proofs.lemmas.Int.{to_z-of_z}
 use Rattle.sqlite.specs.Held.{state}
 use Rattle.sqlite_tables.specs.Tables.{entries_of}
 use Rattle.sqlite_tables.proofs.Settled.{known_after, reads_none, reads_then, sure_first, sure_then, sure_same}
-use Rattle.sqlite_tables.proofs.Columns.{read_none, read_further}
+use Rattle.sqlite_tables.proofs.ColumnReads.{read_none, read_further}
 use Rattle.sqlite_tables.proofs.reading.read_column.Goals as goal
 
 pub loop-page-init : goal.loop-page-init

@@ -1,7 +1,7 @@
 use Rattle.std.proofs.Common.{refl}
 use Rattle.sqlite.specs.Held.{state}
 use Rattle.sqlite_tables.specs.Tables.{entries_of}
-use Rattle.sqlite_tables.proofs.Columns.{is_lookup}
+use Rattle.sqlite_tables.proofs.ColumnReads.{is_lookup}
 use Rattle.sqlite_tables.proofs.reading.read_lookup.Goals as goal
 
 pub returns-clause-is : goal.returns-clause-is

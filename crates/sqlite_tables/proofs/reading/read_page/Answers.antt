@@ -4,7 +4,7 @@ use Rattle.sqlite.specs.Held.{state}
 use Rattle.sqlite.specs.Order.{Row as SqlRow}
 use Rattle.sqlite_tables.specs.Tables.{entries_of}
 use Rattle.sqlite_tables.specs.Lookups.{Adds}
-use Rattle.sqlite_tables.proofs.Columns.{page_parts}
+use Rattle.sqlite_tables.proofs.ColumnReads.{page_parts}
 use Rattle.sqlite_tables.proofs.reading.read_page.Goals as goal
 
 pub returns-clause-adds : goal.returns-clause-adds

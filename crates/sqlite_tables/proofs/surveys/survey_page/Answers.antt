@@ -4,6 +4,7 @@ use Rattle.std.specs.List.{list_all}
 use Rattle.sqlite.specs.Held.{state}
 use Rattle.sqlite.specs.Order.{Row as SqlRow}
 use Rattle.sqlite_tables.specs.Cells.{greatest, is_paged, is_row}
+use Rattle.sqlite_tables.specs.Reporting.{IsReportedPage}
 use Rattle.sqlite_tables.specs.Tables.{entries_of}
 use Rattle.sqlite_tables.proofs.Refused.{by_none, only_more}
 use Rattle.sqlite_tables.proofs.Reported.{content_reported, not_paged}
@@ -70,7 +71,8 @@ returns-in-Err-check_rows-clause-reported g c =
     let l = c.args.shape.now in
     let entries = entries_of (state g.S.Store c.args.conn.now).now l in
     let a = to_z-of_z w64 c.args.low c.ranges.low in
-    content_reported _ g.S.SourceStore.honest l (state g.S.Store c.args.conn.now) (state g.S.Store c.page_between.new.conn) (is_paged l ≡ false)
+    content_reported (IsReportedPage l c.args.low greatest (state g.S.Store c.args.conn.now) (state g.S.Store c.page_between.new.conn))
+    g.S.SourceStore.honest l (state g.S.Store c.args.conn.now) (state g.S.Store c.page_between.new.conn) (is_paged l ≡ false)
     c.in-Err-check_rows.misread c.fault_of_content.result c.in-Err-check_rows.ensures.memory c.fault_of_content.ensures.memory
     c.fault_of_content.ensures.source c.fault_of_content.ensures.refused
     (λ none.
