@@ -28,8 +28,8 @@ use Rattle.sqlite_tables.proofs.PagesJoin.{between}
 
 -- a table that is read and written by its texts, where it is there, is read by its page text
 pub known_by : (schema : Schema) (l : Layout) → IsWritable schema l → IsKnown schema l
-known_by schema l (inl absent) = inl absent.page
-known_by schema l (inr w) = inr (w.0, w.1.page)
+known_by schema l (written, inl absent) = inl absent.page
+known_by schema l (written, inr w) = inr (w.0, w.1.page)
 
 -- each layout is known
 pub known_at : (honest : Bool) (schema : Schema) (t : ℕ) → ((u : ℕ) → honest ≡ true → ∥ IsWritable schema (layout_at u) ∥₁) → honest ≡ true → ∥ IsKnown schema (layout_at t) ∥₁

@@ -57,19 +57,19 @@ module _ (old : Database) (l : Layout) (changes : List Change) where
       big = grind (arith, count_is, fresh_is, gone_is, law, lt)
 
   -- a key that would stand twice
-  pub repeated : repeats_key (keys_gone changes) (rows_come changes) entries ≡ repeats (map key_cell after)
-      → repeats_key (keys_gone changes) (rows_come changes) entries ≡ true → Contains (write_causes rows changes) NotUnique
+  pub repeated : repeats_key l (keys_gone changes) (rows_come changes) entries ≡ repeats (map key_cell after)
+      → repeats_key l (keys_gone changes) (rows_come changes) entries ≡ true → Contains (write_causes rows changes) NotUnique
   repeated law e = rw (sym law ∙ e) (second_cause (list_any lacks_key changes) (nat_lt 1000000 (length after)))
 
   -- exactly the changes are made
   pub rewrites : (new : Database) (count fresh gone : ℕ) → new.schema ≡ old.schema → tree_found old.schema l ≢ None
-      → entries_of new l ≡ rewritten (keys_gone changes) (rows_come changes) entries → KeepsTables old new l
-      → list_any lacks_key changes ≡ false → repeats_key (keys_gone changes) (rows_come changes) entries ≡ false
+      → entries_of new l ≡ rewritten l (keys_gone changes) (rows_come changes) entries → KeepsTables old new l
+      → list_any lacks_key changes ≡ false → repeats_key l (keys_gone changes) (rows_come changes) entries ≡ false
       → count ≡ length rows → fresh ≡ length (rows_come changes) → gone ≡ length (keys_gone changes) → count + fresh ≤ 1000000 + gone
       → length after + length (keys_gone changes) ≡ length rows + length (rows_come changes)
-      → repeats_key (keys_gone changes) (rows_come changes) entries ≡ repeats (map key_cell after)
-      → map held (rows_in l (rewritten (keys_gone changes) (rows_come changes) entries)) ≡ in_key_order after
-      → IsDistinct nat_eq (map (λ (r : TableRow). r.id) (rows_in l (rewritten (keys_gone changes) (rows_come changes) entries)))
+      → repeats_key l (keys_gone changes) (rows_come changes) entries ≡ repeats (map key_cell after)
+      → map held (rows_in l (rewritten l (keys_gone changes) (rows_come changes) entries)) ≡ in_key_order after
+      → IsDistinct nat_eq (map (λ (r : TableRow). r.id) (rows_in l (rewritten l (keys_gone changes) (rows_come changes) entries)))
       → Rewrites old new l changes
   rewrites new count fresh gone schema there is others keyed free count_is fresh_is gone_is le count_law repeats_law rows_law once_law = record {
     schema = schema;

@@ -1,5 +1,5 @@
 -- The rows of a table stand in the order of their keys, and the first so many of them come.
-use Rattle.std.proofs.Common.{◌≡◌, ℕ, ℤ, ◌+◌, ◌-◌, ◌<ℤ◌, Bool, true, false, not, nat_eq, List, [], ◌∷◌, map, filter, take, Option, Some, None, option_map, zero, suc, IsTrue, IsSorted, refl, ap, sym, arith}
+use Rattle.std.proofs.Common.{◌≡◌, ℕ, ℤ, ◌+◌, ◌-◌, ◌<ℤ◌, Bool, true, false, not, nat_eq, List, [], ◌∷◌, map, filter, take, Option, Some, None, option_map, zero, suc, IsTrue, IsSorted, refl, ap, sym, ◌∙◌, arith}
 use Rattle.std.proofs.lemmas.Int.{ints}
 use Rattle.std.specs.declared.cmp.Ordering.{Ordering}
 use Rattle.std.specs.declared.cmp.Ordering.TheVariants.{Less, Equal, Greater}
@@ -61,18 +61,21 @@ or_equal Less e = e
 or_equal Equal e = refl
 or_equal Greater e = refl
 
+-- a cell of a row that a page shows
+abbrev cell_in : Layout → SqlRow → ℕ → Datum
+cell_in l r n = cell (page_cells l (paged (places l) r)) n
+
 -- a row of a greater key does not stand before one of a lower key
-behind : (l : Layout) → HasKeyFirst l → (order : List KeyForm) → is_by_key order ≡ true → (a b : SqlRow) → IsTrue (is_int (rowid a)) → IsTrue (is_int (rowid b))
-    → key_of a <ℤ key_of b → is_lt (row_cmp order (row_in l (paged (places l) b)) (row_in l (paged (places l) a))) ≡ false
+behind : (l : Layout) → HasKeyFirst l → (order : List KeyForm) → is_by_key order ≡ true → (a b : SqlRow)
+    → IsTrue (is_int (rowid a)) → IsTrue (is_int (rowid b)) → key_of a <ℤ key_of b
+    → is_lt (row_cmp order (row_in l (paged (places l) b)) (row_in l (paged (places l) a))) ≡ false
 behind l first [] by a b ha hb less = refl
 behind l first (k ∷ []) by a b ha hb less =
     let w = and_parts (nat_eq k.column 0) (not k.descending) by in
-    or_equal (key_cmp k.descending k.nulls_first (at b k.column) (at a k.column))
-    (keys_rise k.descending k.nulls_first (at b k.column) (at a k.column) (key_of a) (key_of b) (not-true k.descending w.1)
-    (ap (at b) (is_first k.column w.0) ∙ key_cell l first b hb) (ap (at a) (is_first k.column w.0) ∙ key_cell l first a ha) less)
-  where
-    abbrev at : SqlRow → ℕ → Datum
-    at r n = cell (page_cells l (paged (places l) r)) n
+    let here : k.column ≡ 0 = is_first k.column w.0 in
+    or_equal (key_cmp k.descending k.nulls_first (cell_in l b k.column) (cell_in l a k.column))
+    (keys_rise k.descending k.nulls_first (cell_in l b k.column) (cell_in l a k.column) (key_of a) (key_of b) (not-true k.descending w.1)
+    (ap (cell_in l b) here ∙ key_cell l first b hb) (ap (cell_in l a) here ∙ key_cell l first a ha) less)
 behind l first (k ∷ j ∷ ks) by a b ha hb less = absurd cc
 
 module _ (l : Layout) (first : HasKeyFirst l) (order : List KeyForm) (by : is_by_key order ≡ true) where

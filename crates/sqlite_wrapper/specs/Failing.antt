@@ -35,9 +35,9 @@ FailsToLook before after fault = not_refused fault × Looks before after false
 
 -- why a write of these changes is not made. Before the database is used: memory was refused, a new row has no key, or the look failed. Then:
 -- the rows are not counted, they would be too many, or the rewrite fails
-abbrev pub FailsToWrite : {S : Type 0} → Ghosts S → Bool → Layout → List Change → Watch → Watch → State → State → Fault → Type 0
+abbrev pub FailsToWrite : {S : Type 0} → Ghosts S → Bool → Layout → List Change → Watch → Watch → Held S → Held S → Fault → Type 0
 FailsToWrite g honest l changes before after old new fault =
     ((new ≡ old) × (IsKeyless changes fault ⊎ FailsToLook before after fault))
-    ⊎ FailsToFind g honest l old new fault
-    ⊎ ((fault ≡ Refused TooLarge) × ReadsOnly old new l)
-    ⊎ FailsAfterCount g l changes old new fault
+    ⊎ FailsToFind g honest l (state g old) (state g new) fault
+    ⊎ ((fault ≡ Refused TooLarge) × ReadsOnly (state g old) (state g new) l)
+    ⊎ FailsAfterCount g l changes (state g old) (state g new) fault

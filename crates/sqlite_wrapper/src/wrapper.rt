@@ -468,11 +468,11 @@ impl<S: SourceStore + Drop> Wrapper for SqliteWrapper<S> {
             self.new.bound.items self.new.scans self.new.staged self.new.next self.new.pulled self.new.faults)) }
         ensures reported { S.honest ≡ true → IfErr result (λ fault. IfSome (option_map write_is self.old.staged)
             (λ w. FailsToWrite S.Store S.honest (layout_at w.table) w.changes self.old.watch self.new.watch
-            (state S.Store self.old.conn) (state S.Store self.new.conn) fault)) }
+            self.old.conn self.new.conn fault)) }
         ensures clean_reported { IsSteady (S.Store.view self.old.conn.store) → IsSteady (S.Store.view self.new.conn.store)
             → AreWritable self.old.conn.schema → IfErr result (λ fault. IfSome (option_map write_is self.old.staged)
             (λ w. FailsToWrite S.Store S.honest (layout_at w.table) w.changes self.old.watch self.new.watch
-            (state S.Store self.old.conn) (state S.Store self.new.conn) fault)) }
+            self.old.conn self.new.conn fault)) }
         ensures looked { (self.new.conn ≡ self.old.conn) ⊎ Looks self.old.watch self.new.watch true }
         ensures seen { keep ≡ true → OnOk result (Looks self.old.watch self.new.watch true) }
     {

@@ -103,10 +103,10 @@ fn write_shape<S: SourceStore>(
     ensures sure_same { IsSureWrite (state S.Store conn.old) (state S.Store conn.new) shape.now
         → OnErr result ((state S.Store conn.new).now ≡ (state S.Store conn.old).now) }
     ensures reported { S.honest ≡ true → IfErr result (FailsToWrite S.Store S.honest shape.now (map change_is changes.items)
-        watch.old watch.new (state S.Store conn.old) (state S.Store conn.new)) }
+        watch.old watch.new conn.old conn.new) }
     ensures sure_reported { IsSureWrite (state S.Store conn.old) (state S.Store conn.new) shape.now
         → IfErr result (FailsToWrite S.Store S.honest shape.now (map change_is changes.items)
-        watch.old watch.new (state S.Store conn.old) (state S.Store conn.new)) }
+        watch.old watch.new conn.old conn.new) }
     ensures idle { conn.new.in_transaction ≡ false }
     ensures looked { (conn.new ≡ conn.old) ⊎ Looks watch.old watch.new true }
     ensures seen { OnOk result (Looks watch.old watch.new true) }
@@ -178,10 +178,10 @@ pub(crate) fn write_rows<S: SourceStore>(
     ensures sure_same { IsSureWrite (state S.Store conn.old) (state S.Store conn.new) (layout_at table)
         → OnErr result ((state S.Store conn.new).now ≡ (state S.Store conn.old).now) }
     ensures reported { S.honest ≡ true → IfErr result (FailsToWrite S.Store S.honest (layout_at table) (map change_is changes.items)
-        watch.old watch.new (state S.Store conn.old) (state S.Store conn.new)) }
+        watch.old watch.new conn.old conn.new) }
     ensures sure_reported { IsSureWrite (state S.Store conn.old) (state S.Store conn.new) (layout_at table)
         → IfErr result (FailsToWrite S.Store S.honest (layout_at table) (map change_is changes.items)
-        watch.old watch.new (state S.Store conn.old) (state S.Store conn.new)) }
+        watch.old watch.new conn.old conn.new) }
     ensures idle { conn.new.in_transaction ≡ false }
     ensures looked { (conn.new ≡ conn.old) ⊎ Looks watch.old watch.new true }
     ensures seen { OnOk result (Looks watch.old watch.new true) }

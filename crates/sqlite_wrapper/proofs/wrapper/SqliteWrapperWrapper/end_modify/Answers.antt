@@ -14,6 +14,7 @@ use Rattle.sqlite_wrapper.specs.Changes.{NamesOnce, names_rows, write_fits}
 use Rattle.sqlite_wrapper.specs.Boxes.{sqlite_state}
 use Rattle.sqlite_wrapper.specs.Clean.{IsSureChange}
 use Rattle.sqlite_wrapper.specs.Counts.{AreCounts, AreFew, held_for}
+use Rattle.sqlite_wrapper.proofs.Failures.{of_write}
 use Rattle.sqlite_wrapper.proofs.Looking.{looks_after}
 use Rattle.sqlite_wrapper.proofs.Closing.{same_rows, looks_closed, sqlite_closes, sqlite_keeps, within}
 use Rattle.sqlite_wrapper.proofs.Counted.{forget_counts, forget_few, held_few, held_is, put_counts, put_few}
@@ -221,3 +222,18 @@ returns-in-Err-clause-clean_err g c before steady may =
     rw c.faults_after-self.ensures
     (subst (λ (o : Option StagedWrite). RefusesClose old c.args.keep fault (sqlite_state true after s.bound.items s.scans o s.next s.pulled (faults_after fault s.faults))) (sym c.take.ensures.after)
     (subst (λ (k : Bool). RefusesClose old k fault (sqlite_state true after s.bound.items s.scans None s.next s.pulled (faults_after fault s.faults))) (sym keep) keeps))
+
+pub returns-in-Err-clause-reported : goal.returns-in-Err-clause-reported
+returns-in-Err-clause-reported g c h =
+    of_write c.args.self.now.staged write_is c.in-Some.write _ (sym c.take.ensures.value ∙ c.in-Some.is) (c.in-Err.ensures.reported h)
+
+pub returns-in-Err-clause-clean_reported : goal.returns-in-Err-clause-clean_reported
+returns-in-Err-clause-clean_reported g c before steady texts =
+    let s = c.args.self.now in
+    let write = c.in-Some.write in
+    let sure : IsSureWrite (state g.S.Store s.conn) (state g.S.Store c.write_rows.new.conn) (layout_at write.table) = record {
+      after = record { clean = steady.clean; is_open = steady.is_open };
+      writable = texts write.table;
+      ordered = entries_ordered g.S.Store s.conn (layout_at write.table) before c.schema-schema.ensures.live (texts write.table);
+    } in
+    of_write s.staged write_is write _ (sym c.take.ensures.value ∙ c.in-Some.is) (c.in-Err.ensures.sure_reported sure)
