@@ -17,13 +17,15 @@ use Rattle.sqlite_tables.specs.Texts.{IsPageOf}
 use Rattle.sqlite_tables.specs.Tables.{IsKnown, IsSure, ReadsOnly, entries_of, entries_at, tree_of}
 use Rattle.sqlite_tables.proofs.Settled.{tree_is, known_after}
 
-module _ {S : Type 0} (g : Ghosts S) (c : Held S) (l : Layout) (steady : IsSteady (g.view c.store)) (sound : IsDatabase (state g c).now) where
+module _ {S : Type 0} (g : Ghosts S) (c : Held S) (l : Layout) (steady : IsSteady (g.view c.store))
+    (sound : IsDatabase (state g c).now) where
   in_tree : (tree : ℕ) → IsPageOf c.schema l.page tree (places l) → IsShaped shape.Table ((g.view c.store).trees tree)
   in_tree tree is =
       let v = g.view c.store in
       let rise = (objects_rise v steady.listed steady.ordered).0 in
       let at = (table_shape steady.listed rise sound.lists.listed is.table (has_got c.schema.tables is.place is.table is.at)).0 in
-      let here : IsShaped shape.Table (v.trees is.table.tree) = subst (λ (s : Shape). IsShaped s (v.trees is.table.tree)) at (steady.ordered is.table.tree) in
+      let here : IsShaped shape.Table (v.trees is.table.tree) = subst (λ (s : Shape). IsShaped s (v.trees is.table.tree)) at
+      (steady.ordered is.table.tree) in
       subst (λ (t : ℕ). IsShaped shape.Table (v.trees t)) is.tree_is here
 
   -- the rows that the database holds for a layout are in the order of their keys
@@ -36,9 +38,11 @@ module _ {S : Type 0} (g : Ghosts S) (c : Held S) (l : Layout) (steady : IsStead
       go : IsKnown c.schema l → IsShaped shape.Table (entries_of (state g c).now l)
       go (inl h) = none (tree_of c.schema l) (rw h.1 refl)
       go (inr h) =
-          subst (λ (p : Option ℕ). IsShaped shape.Table (entries_at (g.view c.store).trees p)) (sym (tree_is c.schema l h.0 h.1)) (in_tree h.0 h.1)
+          subst (λ (p : Option ℕ). IsShaped shape.Table (entries_at (g.view c.store).trees p)) (sym (tree_is c.schema l h.0 h.1))
+          (in_tree h.0 h.1)
 
-pub clean_sure : {S : Type 0} (g : Ghosts S) (old new : Held S) (l : Layout) → IsSteady (g.view new.store) → IsLive (state g old) → ReadsOnly (state g old) (state g new) l → ∥ IsKnown old.schema l ∥₁
+pub clean_sure : {S : Type 0} (g : Ghosts S) (old new : Held S) (l : Layout) → IsSteady (g.view new.store) → IsLive (state g old)
+    → ReadsOnly (state g old) (state g new) l → ∥ IsKnown old.schema l ∥₁
     → IsSure (state g old) (state g new) l
 clean_sure g old new l steady live reads known =
     let after : IsCleanAfter (state g new) = record { clean = steady.clean; is_open = steady.is_open } in

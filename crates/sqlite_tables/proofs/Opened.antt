@@ -1,5 +1,6 @@
 -- What the reading of a remote table shows, from what was found of it.
-use Rattle.std.proofs.Common.{◌≡◌, ◌≢◌, ℕ, Bool, true, false, if◌then◌else◌, nat_eq, nat_lt, List, [], ◌∷◌, map, length, zero, suc, Option, Some, None, option_map, Contains, refl, ap, sym, ◌∙◌, subst, arith}
+use Rattle.std.proofs.Common.{◌≡◌, ◌≢◌, ℕ, Bool, true, false, if◌then◌else◌, nat_eq, nat_lt, List, [], ◌∷◌, map, length, zero, suc}
+use Rattle.std.proofs.Common.{Option, Some, None, option_map, Contains, refl, ap, sym, ◌∙◌, subst, arith}
 use Rattle.std.specs.List.{list_all}
 use Rattle.std.proofs.lemmas.Bool.{and_parts}
 use Rattle.sqlite.specs.Effect.{Database}
@@ -35,19 +36,25 @@ pub same_types : (xs ys : List ColType) → types_match xs ys ≡ true → ys �
 same_types [] [] e = refl
 same_types [] (y ∷ ys) e = absurd cc
 same_types (x ∷ xs) [] e = absurd cc
-same_types (x ∷ xs) (y ∷ ys) e = let w = and_parts (same_type x y) (types_match xs ys) e in rw (one_type x y w.0, same_types xs ys w.1) refl
+same_types (x ∷ xs) (y ∷ ys) e = let w = and_parts (same_type x y)
+    (types_match xs ys) e in rw (one_type x y w.0, same_types xs ys w.1) refl
 
 matched : (own declared : List ColType) (rows : List Tuple) → types_match own declared ≡ true
-    → (sqlite_reading declared (Some (Stored own rows))).causes ≡ content_causes (list_all (row_fits own) rows) (nat_lt 1000000 (length rows))
-matched own declared rows e = rw e (ap (λ (k : List ColType). content_causes (list_all (row_fits k) rows) (nat_lt 1000000 (length rows))) (same_types own declared e))
+    → (sqlite_reading declared (Some (Stored own rows))).causes ≡ content_causes (list_all (row_fits own) rows)
+    (nat_lt 1000000 (length rows))
+matched own declared rows e = rw e
+    (ap (λ (k : List ColType). content_causes (list_all (row_fits k) rows) (nat_lt 1000000 (length rows))) (same_types own declared e))
 
 -- a table that was found, of the columns' types, shows the causes of its rows
-pub opened : (db : Database) (l : Layout) (declared : List ColType) → tree_found db.schema l ≢ None → types_match (kinds_in l) declared ≡ true
+pub opened : (db : Database) (l : Layout) (declared : List ColType) → tree_found db.schema l ≢ None
+    → types_match (kinds_in l) declared ≡ true
     → (sqlite_reading declared (entry_of db l)).causes ≡ causes_in l (entries_of db l)
-opened db l declared ne e = go (tree_found db.schema l) ne ∙ ap (λ (o : Option ℕ). causes_in l (entries_at db.trees o)) (found_is_read db.schema l ne)
+opened db l declared ne e = go (tree_found db.schema l) ne
+    ∙ ap (λ (o : Option ℕ). causes_in l (entries_at db.trees o)) (found_is_read db.schema l ne)
   where
     go : (o : Option ℕ) → o ≢ None
-        → (sqlite_reading declared (option_map (λ t. Stored (kinds_in l) (map (λ r. r.cells) (rows_in l (db.trees t)))) o)).causes ≡ causes_in l (entries_at db.trees o)
+        → (sqlite_reading declared (option_map (λ t. Stored (kinds_in l) (map (λ r. r.cells) (rows_in l (db.trees t)))) o)).causes
+        ≡ causes_in l (entries_at db.trees o)
     go None ne = absurd (ne refl)
     go (Some t) ne = matched (kinds_in l) declared (map (λ r. r.cells) (rows_in l (db.trees t))) e
 
@@ -55,12 +62,14 @@ alone : (c : Cause) → Contains (c ∷ []) c
 alone c = (0, omega arith, refl)
 
 -- of a table that was found, of other columns: HV004
-pub mismatched : (db : Database) (l : Layout) (declared : List ColType) → tree_found db.schema l ≢ None → types_match (kinds_in l) declared ≡ false
+pub mismatched : (db : Database) (l : Layout) (declared : List ColType) → tree_found db.schema l ≢ None
+    → types_match (kinds_in l) declared ≡ false
     → Contains (sqlite_reading declared (entry_of db l)).causes InvalidDataType
 mismatched db l declared ne e = go (tree_found db.schema l) ne
   where
     go : (o : Option ℕ) → o ≢ None
-        → Contains (sqlite_reading declared (option_map (λ t. Stored (kinds_in l) (map (λ r. r.cells) (rows_in l (db.trees t)))) o)).causes InvalidDataType
+        → Contains (sqlite_reading declared
+        (option_map (λ t. Stored (kinds_in l) (map (λ r. r.cells) (rows_in l (db.trees t)))) o)).causes InvalidDataType
     go None ne = absurd (ne refl)
     go (Some t) ne = rw e (alone InvalidDataType)
 
@@ -104,13 +113,16 @@ of_run false true = refl
 of_run false false = refl
 
 -- all causes that one table shows are of one phase
-pub least_told : (declared : List ColType) (entry : Option Entry) (c : Cause) → Contains (sqlite_reading declared entry).causes c → IsLeast (sqlite_reading declared entry).causes c
+pub least_told : (declared : List ColType) (entry : Option Entry) (c : Cause) → Contains (sqlite_reading declared entry).causes c
+    → IsLeast (sqlite_reading declared entry).causes c
 least_told declared None c is = least_of 5 _ c refl is
 least_told declared (Some (Bytes content)) c is = least_of 5 _ c refl is
 least_told declared (Some (Stored own rows)) c is = go (types_match own declared) is
   where
     go : (b : Bool)
-        → Contains (if b then read_rows (list_all (row_fits declared) rows) (nat_lt 1000000 (length rows)) rows else record { causes = InvalidDataType ∷ []; rows = []; late = refl }).causes c
-        → IsLeast (if b then read_rows (list_all (row_fits declared) rows) (nat_lt 1000000 (length rows)) rows else record { causes = InvalidDataType ∷ []; rows = []; late = refl }).causes c
+        → Contains (if b then read_rows (list_all (row_fits declared) rows)
+        (nat_lt 1000000 (length rows)) rows else record { causes = InvalidDataType ∷ []; rows = []; late = refl }).causes c
+        → IsLeast (if b then read_rows (list_all (row_fits declared) rows)
+        (nat_lt 1000000 (length rows)) rows else record { causes = InvalidDataType ∷ []; rows = []; late = refl }).causes c
     go true is = least_of 6 _ c (of_run (list_all (row_fits declared) rows) (nat_lt 1000000 (length rows))) is
     go false is = least_of 5 _ c refl is

@@ -1,5 +1,7 @@
 -- Pages: the rows of a key range are those of its first page, and after a full page those of the keys after it.
-use Rattle.std.proofs.Common.{◌≡◌, ℕ, ℤ, pos, zero, suc, ◌+ℤ◌, ◌≤◌, ◌≤ℤ◌, ◌<ℤ◌, Bool, true, false, cond, ◌&&◌, if◌then◌else◌, nat_eq, List, [], ◌∷◌, ◌++◌, map, filter, take, drop, length, IsTrue, append-nil, FitsSigned, w64, refl, ap, sym, ◌∙◌, arith}
+use Rattle.std.proofs.Common.{◌≡◌, ℕ, ℤ, pos, zero, suc, ◌+ℤ◌, ◌≤◌, ◌≤ℤ◌, ◌<ℤ◌, Bool, true, false, cond, ◌&&◌, if◌then◌else◌, nat_eq}
+use Rattle.std.proofs.Common.{List, [], ◌∷◌, ◌++◌, map, filter, take, drop, length, IsTrue, append-nil, FitsSigned, w64, refl, ap, sym}
+use Rattle.std.proofs.Common.{◌∙◌, arith}
 use Rattle.std.proofs.lemmas.Int.{ints}
 use Rattle.std.proofs.lemmas.List.{take-map, take-append-drop, length-take}
 use Rattle.std.specs.declared.cmp.Ordering.{Ordering}
@@ -84,7 +86,8 @@ Inside low high = AllByRecursion (λ r. in_range low high r ≡ true)
 
 module _ (high : ℤ) where
   -- the rows after a row are in the range after its key
-  after : (low : ℤ) (r : SqlRow) (es : List SqlRow) → IsTrue (is_int (rowid r)) → AllByRecursion (λ e. value_cmp (rowid r) (rowid e) ≡ Less) es
+  after : (low : ℤ) (r : SqlRow) (es : List SqlRow) → IsTrue (is_int (rowid r))
+      → AllByRecursion (λ e. value_cmp (rowid r) (rowid e) ≡ Less) es
       → Ints es → Inside low high es → Inside (key_of r +ℤ pos 1) high es
   after low r [] h up ints_are inside = tt
   after low r (e ∷ es) h up ints_are inside = (
@@ -126,7 +129,8 @@ module _ (l : Layout) (high : ℤ) where
 
   -- the rows after the first n are those of the keys after them
   pub behind_page : (low : ℤ) (n : ℕ) (entries : List SqlRow) → IsShaped shape.Table entries
-      → range_of (places l) (behind low (take n (range_of (places l) low high entries))) high entries ≡ drop n (range_of (places l) low high entries)
+      → range_of (places l) (behind low (take n (range_of (places l) low high entries))) high entries ≡ drop n
+      (range_of (places l) low high entries)
   behind_page low n entries shaped =
       let es = filter (in_range low high) entries in
       let inside = inside_filter high low entries in
@@ -161,7 +165,8 @@ pages_join l low high entries page shaped is =
     let rows = range_of (places l) low high entries in
     rw is (go rows (behind_page l high low 64 entries shaped) (nat_eq (length (take 64 rows)) 64) refl)
   where
-    go : (xs : List SqlRow) → range_of (places l) (behind low (take 64 xs)) high entries ≡ drop 64 xs → (b : Bool) → nat_eq (length (take 64 xs)) 64 ≡ b
+    go : (xs : List SqlRow) → range_of (places l) (behind low (take 64 xs)) high entries ≡ drop 64 xs → (b : Bool)
+        → nat_eq (length (take 64 xs)) 64 ≡ b
         → xs ≡ take 64 xs ++ (if b then range_of (places l) (behind low (take 64 xs)) high entries else [])
     go xs on true e = rw on (sym (take-append-drop 64 xs))
     go xs on false e = sym (append-nil (take 64 xs) ∙ short_page xs e)

@@ -17,13 +17,15 @@ only_more by more NoMemory up h = tt
 only_more by more Source up h = tt
 only_more by more (Refused c) up h = up c h
 
-pub both_only : (one two more : Cause → Type 0) (f : Fault) → ((c : Cause) → one c → two c → more c) → OnlyBy one f → OnlyBy two f → OnlyBy more f
+pub both_only : (one two more : Cause → Type 0) (f : Fault) → ((c : Cause) → one c → two c → more c) → OnlyBy one f → OnlyBy two f
+    → OnlyBy more f
 both_only one two more NoMemory up h k = tt
 both_only one two more Source up h k = tt
 both_only one two more (Refused c) up h k = up c h k
 
 -- what a refused call tells, and what a call that was not refused does
-pub refused_more : {T : Type 0} (r : Result T Fault) (by more : Cause → Type 0) → ((c : Cause) → by c → more c) → IfErr r (OnlyBy by) → IfErr r (OnlyBy more)
+pub refused_more : {T : Type 0} (r : Result T Fault) (by more : Cause → Type 0) → ((c : Cause) → by c → more c) → IfErr r (OnlyBy by)
+    → IfErr r (OnlyBy more)
 refused_more (Ok x) by more up h = tt
 refused_more (Err f) by more up h = only_more by more f up h
 

@@ -1,39 +1,6 @@
 -- What a failure to read a table says of the errors that were reported, and of the table.
-use Rattle.std.proofs.Common.{
-  ◌≡◌,
-  ◌≢◌,
-  ◌⊎◌,
-  inl,
-  inr,
-  ℕ,
-  ℤ,
-  zero,
-  suc,
-  Bool,
-  true,
-  false,
-  ◌&&◌,
-  nat_lt,
-  List,
-  [],
-  ◌∷◌,
-  map,
-  filter,
-  take,
-  length,
-  IsTrue,
-  Result,
-  Ok,
-  Err,
-  IfErr,
-  Contains,
-  refl,
-  ap,
-  sym,
-  ◌∙◌,
-  subst,
-  arith,
-}
+use Rattle.std.proofs.Common.{◌≡◌, ◌≢◌, ◌⊎◌, inl, inr, ℕ, ℤ, zero, suc, Bool, true, false, ◌&&◌, List, [], ◌∷◌, map, filter, take, IsTrue}
+use Rattle.std.proofs.Common.{Result, Ok, Err, IfErr, Contains, refl, ap, sym, ◌∙◌, subst, arith}
 use Rattle.std.proofs.lemmas.List.{length-map}
 use Rattle.std.specs.List.{AllByRecursion, list_all}
 use Rattle.sqlite.specs.declared.types.Value.{Value}
@@ -53,14 +20,13 @@ use Rattle.fdw_api.specs.declared.interface.Fault.{Fault}
 use Rattle.fdw_api.specs.declared.interface.Fault.TheVariants.{NoMemory, Source, Refused}
 use Rattle.sqlite_tables.specs.declared.cells.Misread.{Misread}
 use Rattle.sqlite_tables.specs.declared.cells.Misread.TheVariants as misread
-use Rattle.sqlite_tables.specs.declared.columns.PageColumn.{PageColumn}
 use Rattle.sqlite_tables.specs.Layouts.{Layout, places}
 use Rattle.sqlite_tables.specs.Cells.{are_below, is_int as has_number, is_paged, is_row}
 use Rattle.sqlite_tables.specs.Refusing.{OnlyBy}
-use Rattle.sqlite_tables.specs.Reporting.{FailsToCount, FailsToRead, IsReportedPage, IsSourceFor, IsUnfit}
+use Rattle.sqlite_tables.specs.Reporting.{FailsToCount, FailsToRead, IsReportedPage, IsSourceFor}
 use Rattle.sqlite_tables.specs.Surveys.{causes_in}
 use Rattle.sqlite_tables.specs.Tables.{IsSure, ReadsOnly, entries_of}
-use Rattle.sqlite_tables.proofs.Settled.{reads_then, sure_then}
+use Rattle.sqlite_tables.proofs.Settled.{sure_then}
 
 -- an error that is reported where the disk is clean
 pub reported_if : {A E : Type 0} (r : Result A E) (P : Type 0) (Q : E → Type 0) → (P → IfErr r Q) → IfErr r (λ e. P → Q e)
@@ -85,7 +51,8 @@ module _ (l : Layout) (all : is_paged l ≡ true) where
       both_are _ _ (number_in (rowid r) h)
       (ap (λ (n : ℕ). are_below n l.columns) (length-map (places l) (λ (at : ℕ). Rattle.sqlite.specs.Order.column r at)) ∙ all)
 
-  rows_are : (es : List SqlRow) → AllByRecursion (λ r. IsTrue (is_int (rowid r))) es → list_all (is_row l) (map (paged (places l)) es) ≡ true
+  rows_are : (es : List SqlRow) → AllByRecursion (λ r. IsTrue (is_int (rowid r))) es
+      → list_all (is_row l) (map (paged (places l)) es) ≡ true
   rows_are [] h = refl
   rows_are (r ∷ es) h = both_are _ _ (row_is r h.0) (rows_are es h.1)
 
@@ -99,13 +66,15 @@ module _ (l : Layout) (all : is_paged l ≡ true) where
   first_are (suc n) (r ∷ rows) h =
       first_and (is_row l r) (list_all (is_row l) rows) (list_all (is_row l) (take n rows)) (λ more. first_are n rows more) h
 
-  page_is : (low high : ℤ) (es : List SqlRow) → IsShaped shape.Table es → list_all (is_row l) (take 64 (range_of (places l) low high es)) ≡ true
+  page_is : (low high : ℤ) (es : List SqlRow) → IsShaped shape.Table es
+      → list_all (is_row l) (take 64 (range_of (places l) low high es)) ≡ true
   page_is low high es shaped =
       first_are 64 (range_of (places l) low high es)
       (rows_are (filter (in_range low high) es) (all-filter (λ r. IsTrue (is_int (rowid r))) (in_range low high) es shaped.1))
 
 -- a page of a table has a row that is none only where the page does not show each column
-pub not_paged : (l : Layout) (low high : ℤ) (es page : List SqlRow) → IsShaped shape.Table es → page ≡ take 64 (range_of (places l) low high es)
+pub not_paged : (l : Layout) (low high : ℤ) (es page : List SqlRow) → IsShaped shape.Table es
+    → page ≡ take 64 (range_of (places l) low high es)
     → list_all (is_row l) page ≡ false → is_paged l ≡ false
 not_paged l low high es page shaped same e = go (is_paged l) refl
   where
@@ -116,18 +85,21 @@ not_paged l low high es page shaped same e = go (is_paged l) refl
 -- ---- what a fault says
 
 -- a fault of a row that could not be read
-pub content_reported : (first : Fault → Type 0) (honest : Bool) (l : Layout) (old new : State) (Reason : Type 0) (m : Misread) (f : Fault) → m ≢ misread.NoMemory
+pub content_reported : (first : Fault → Type 0) (honest : Bool) (l : Layout) (old new : State) (Reason : Type 0) (m : Misread)
+    (f : Fault) → m ≢ misread.NoMemory
     → (m ≢ misread.NoMemory → f ≢ NoMemory) → (f ≡ Source → m ≡ misread.NoRow) → OnlyBy (λ c. (c ≡ InvalidText) × (m ≡ misread.Stray)) f
     → (m ≡ misread.NoRow → (honest ≡ true → Reason) × (IsSure old new l → Reason))
     → first f ⊎ (f ≡ Refused InvalidText) ⊎ IsSourceFor honest l old new Reason f
 content_reported first honest l old new Reason m NoMemory other memory source by why = absurd (memory other refl)
-content_reported first honest l old new Reason m Source other memory source by why = let w = why (source refl) in inr (inr (refl, w.0, w.1))
+content_reported first honest l old new Reason m Source other memory source by why = let w = why (source refl) in inr
+    (inr (refl, w.0, w.1))
 content_reported first honest l old new Reason m (Refused c) other memory source by why = inr (inl (ap Refused by.0))
 
 module _ {S : Type 0} (g : Ghosts S) (honest : Bool) (l : Layout) (old : State) (mid : Held S) (new : State) where
   -- a page that is not read, after pages that were
   pub page_reported : (low high : ℤ) (Reason : Type 0) (f : Fault) → ReadsOnly old (state g mid) l
-      → IsReportedPage l low high (state g mid) new f ⊎ (f ≡ Refused InvalidText) ⊎ IsSourceFor honest l (state g mid) new Reason f → ReadsOnly (state g mid) new l
+      → IsReportedPage l low high (state g mid) new f ⊎ (f ≡ Refused InvalidText) ⊎ IsSourceFor honest l (state g mid) new Reason f
+      → ReadsOnly (state g mid) new l
       → FailsToRead g l old new f ⊎ (f ≡ Refused InvalidText) ⊎ (f ≡ Refused TooLarge) ⊎ IsSourceFor honest l old new Reason f
   page_reported low high Reason f before (inl h) next = inl (mid, low, high, before, h)
   page_reported low high Reason f before (inr (inl h)) next = inr (inl h)

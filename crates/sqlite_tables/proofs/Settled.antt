@@ -71,14 +71,16 @@ module _ (db : Database) (l : Layout) (text : List ℕ) (e : text ≡ l.page) wh
       go (inr h) = rw (entries_are h.0 h.1) (rows h.0 (places l) (as_text h.0 h.1))
 
   pub sure_rows : (low high : ℤ) (items : List SqlRow) → ∥ IsKnown db.schema l ∥₁ → IsShaped shape.Table (entries_of db l)
-      → ((tree : ℕ) (shown : List ℕ) → IsPageOf db.schema text tree shown → IsShaped shape.Table (db.trees tree) → items ≡ take 64 (range_of shown low high (db.trees tree)))
+      → ((tree : ℕ) (shown : List ℕ) → IsPageOf db.schema text tree shown → IsShaped shape.Table (db.trees tree)
+      → items ≡ take 64 (range_of shown low high (db.trees tree)))
       → ((fault : CompileError) → understood db.schema text ≡ Err fault → ⊥)
       → items ≡ take 64 (range_of (places l) low high (entries_of db l))
   sure_rows low high items known ordered rows none = ∥∥₁_elim known (rows_set _ _) go
     where
       go : IsKnown db.schema l → items ≡ take 64 (range_of (places l) low high (entries_of db l))
       go (inl h) = absurd (none h.0 (not_text h.0 h.1))
-      go (inr h) = rw (entries_are h.0 h.1) (rows h.0 (places l) (as_text h.0 h.1) (subst (λ (es : List SqlRow). IsShaped shape.Table es) (entries_are h.0 h.1) ordered))
+      go (inr h) = rw (entries_are h.0 h.1)
+          (rows h.0 (places l) (as_text h.0 h.1) (subst (λ (es : List SqlRow). IsShaped shape.Table es) (entries_are h.0 h.1) ordered))
 
   pub page_joins : (low high : ℤ) (items : List SqlRow) → ∥ IsKnown db.schema l ∥₁
       → ((tree : ℕ) (shown : List ℕ) → IsPageOf db.schema text tree shown → IsShaped shape.Table (db.trees tree))
@@ -89,11 +91,13 @@ module _ (db : Database) (l : Layout) (text : List ℕ) (e : text ≡ l.page) wh
     where
       go : IsKnown db.schema l → range_of (places l) low high (entries_of db l) ≡ items ++ rest_of l low high (entries_of db l) items
       go (inl h) = absurd (none h.0 (not_text h.0 h.1))
-      go (inr h) = rw (entries_are h.0 h.1) (pages_join l low high (db.trees h.0) items (shaped h.0 (places l) (as_text h.0 h.1)) (rows h.0 (places l) (as_text h.0 h.1)))
+      go (inr h) = rw (entries_are h.0 h.1)
+          (pages_join l low high (db.trees h.0) items (shaped h.0 (places l) (as_text h.0 h.1)) (rows h.0 (places l) (as_text h.0 h.1)))
 
   -- the rows that the database holds for the layout are in the order of their keys
   pub page_ordered : ∥ IsKnown db.schema l ∥₁
-      → ((tree : ℕ) (shown : List ℕ) → IsPageOf db.schema text tree shown → IsShaped shape.Table (db.trees tree)) → IsShaped shape.Table (entries_of db l)
+      → ((tree : ℕ) (shown : List ℕ) → IsPageOf db.schema text tree shown → IsShaped shape.Table (db.trees tree))
+      → IsShaped shape.Table (entries_of db l)
   page_ordered known shaped = ∥∥₁_elim known (IsShaped-prop shape.Table _) go
     where
       none : (o : Option ℕ) → o ≡ None → IsShaped shape.Table (entries_at db.trees o)
@@ -101,10 +105,12 @@ module _ (db : Database) (l : Layout) (text : List ℕ) (e : text ≡ l.page) wh
 
       go : IsKnown db.schema l → IsShaped shape.Table (entries_of db l)
       go (inl h) = none (tree_of db.schema l) (rw h.1 refl)
-      go (inr h) = subst (λ (es : List SqlRow). IsShaped shape.Table es) (sym (entries_are h.0 h.1)) (shaped h.0 (places l) (as_text h.0 h.1))
+      go (inr h) = subst (λ (es : List SqlRow). IsShaped shape.Table es) (sym (entries_are h.0 h.1))
+          (shaped h.0 (places l) (as_text h.0 h.1))
 
   -- a text that was read is that of a table
-  pub was_read : ∥ IsKnown db.schema l ∥₁ → ((fault : CompileError) → understood db.schema text ≡ Err fault → ⊥) → tree_of db.schema l ≢ None
+  pub was_read : ∥ IsKnown db.schema l ∥₁ → ((fault : CompileError) → understood db.schema text ≡ Err fault → ⊥)
+      → tree_of db.schema l ≢ None
   was_read known none gone = ∥∥₁_elim known no_two go
     where
       go : IsKnown db.schema l → ⊥
@@ -112,7 +118,8 @@ module _ (db : Database) (l : Layout) (text : List ℕ) (e : text ≡ l.page) wh
       go (inr h) = let e = sym gone ∙ tree_is db.schema l h.0 h.1 in absurd cc
 
   -- a text that was refused as a text is that of no table
-  pub was_refused : ∥ IsKnown db.schema l ∥₁ → ((tree : ℕ) (shown : List ℕ) → IsPageOf db.schema text tree shown → ⊥) → tree_of db.schema l ≡ None
+  pub was_refused : ∥ IsKnown db.schema l ∥₁ → ((tree : ℕ) (shown : List ℕ) → IsPageOf db.schema text tree shown → ⊥)
+      → tree_of db.schema l ≡ None
   was_refused known none = go (tree_of db.schema l) refl
     where
       gone : (t : ℕ) → tree_of db.schema l ≡ Some t → IsKnown db.schema l → ⊥
@@ -124,7 +131,8 @@ module _ (db : Database) (l : Layout) (text : List ℕ) (e : text ≡ l.page) wh
       go (Some t) is = absurd (∥∥₁_elim known no_two (gone t is))
 
 -- no two rows of a table have one id
-pub was_once : (db : Database) (l : Layout) (text : List ℕ) → text ≡ l.page → ∥ IsKnown db.schema l ∥₁ → ((tree : ℕ) (shown : List ℕ) → IsPageOf db.schema text tree shown → IsShaped shape.Table (db.trees tree))
+pub was_once : (db : Database) (l : Layout) (text : List ℕ) → text ≡ l.page → ∥ IsKnown db.schema l ∥₁
+    → ((tree : ℕ) (shown : List ℕ) → IsPageOf db.schema text tree shown → IsShaped shape.Table (db.trees tree))
     → IsDistinct nat_eq (map (λ x. x.id) (rows_of db l))
 was_once db l text e known shaped = ∥∥₁_elim known (IsDistinct-prop nat_eq _) go
   where
@@ -132,7 +140,8 @@ was_once db l text e known shaped = ∥∥₁_elim known (IsDistinct-prop nat_eq
     gone fault bad = rw bad refl
 
     go : IsKnown db.schema l → IsDistinct nat_eq (map (λ x. x.id) (rows_of db l))
-    go (inl h) = subst (λ (o : Option ℕ). IsDistinct nat_eq (map (λ x. x.id) (rows_in l (entries_at db.trees o)))) (sym (gone h.0 h.1)) (no_rows_once l)
+    go (inl h) = subst (λ (o : Option ℕ). IsDistinct nat_eq (map (λ x. x.id) (rows_in l (entries_at db.trees o)))) (sym (gone h.0 h.1))
+        (no_rows_once l)
     go (inr h) =
         subst (λ (es : List SqlRow). IsDistinct nat_eq (map (λ x. x.id) (rows_in l es))) (sym (entries_are db l text e h.0 h.1))
         (ids_once l (db.trees h.0) (shaped h.0 (places l) (as_text db l text e h.0 h.1)))
@@ -174,7 +183,8 @@ sure_same first next sure = first.same (next.was_clean sure.after) sure.known
 -- a page that is read, or refused, by the text of a layout
 pub page_reads : {X : Type 0} (old new : State) (l : Layout) (text : List ℕ) → text ≡ l.page → (IsCleanAfter new → IsCleanAfter old)
     → (IsCleanAfter new → (tree : ℕ) (shown : List ℕ) → IsPageOf old.now.schema text tree shown → new.now ≡ old.now)
-    → (IsCleanAfter new → (fault : CompileError) → understood old.now.schema text ≡ Err fault → (new.now ≡ old.now) × X) → ReadsOnly old new l
+    → (IsCleanAfter new → (fault : CompileError) → understood old.now.schema text ≡ Err fault → (new.now ≡ old.now) × X)
+    → ReadsOnly old new l
 page_reads old new l text e was_clean same unread = record {
   was_clean = was_clean;
   same = λ after known. settled old.now new.now l text e known (same after) (unread after);

@@ -1,5 +1,6 @@
 -- The rows of a value are found, each by its key.
-use Rattle.std.proofs.Common.{◌≡◌, ℕ, ℤ, ◌+◌, ◌<◌, ◌<ℤ◌, Bool, true, false, cond, List, [], ◌∷◌, ◌++◌, map, filter, take, drop, length, get_or, zero, suc, IsTrue, append_assoc, refl, ap, sym, ◌∙◌, subst, arith}
+use Rattle.std.proofs.Common.{◌≡◌, ℕ, ℤ, ◌+◌, ◌<◌, ◌<ℤ◌, Bool, true, false, cond, List, [], ◌∷◌, ◌++◌, map, filter, take, drop, length}
+use Rattle.std.proofs.Common.{get_or, zero, suc, IsTrue, append_assoc, refl, ap, sym, ◌∙◌, subst, arith}
 use Rattle.std.proofs.lemmas.Int.{ints}
 use Rattle.std.proofs.lemmas.List.{map-append, drop-drop, length-map, length-append}
 use Rattle.std.specs.declared.cmp.Ordering.TheVariants.{Less}
@@ -44,10 +45,12 @@ inner : (k m : ℤ) → between least greatest k ≡ true → between k k m ≡ 
 inner k m inside e = grind (arith, ints)
 
 -- rows after a row have greater keys
-none_behind : (r : SqlRow) (es : List SqlRow) → IsTrue (is_int (rowid r)) → AllByRecursion (λ e. value_cmp (rowid r) (rowid e) ≡ Less) es → Ints es
+none_behind : (r : SqlRow) (es : List SqlRow) → IsTrue (is_int (rowid r)) → AllByRecursion (λ e. value_cmp (rowid r) (rowid e) ≡ Less) es
+    → Ints es
     → filter (in_range (key_of r) (key_of r)) es ≡ []
 none_behind r [] h up ints_are = refl
-none_behind r (e ∷ es) h up ints_are = rw (not_above (key_of r) (key_of e) (lower (rowid r) (rowid e) h ints_are.0 up.0)) (none_behind r es h up.1 ints_are.1)
+none_behind r (e ∷ es) h up ints_are = rw (not_above (key_of r) (key_of e) (lower (rowid r) (rowid e) h ints_are.0 up.0))
+    (none_behind r es h up.1 ints_are.1)
 
 greater : (l : Layout) (r : SqlRow) (es : List SqlRow) (p : ℕ) (d : ℤ) → IsTrue (is_int (rowid r))
     → AllByRecursion (λ e. value_cmp (rowid r) (rowid e) ≡ Less) es → Ints es → p < length es
@@ -60,10 +63,12 @@ one_of : (l : Layout) (es : List SqlRow) (p : ℕ) (k d : ℤ) → IsTable es �
     → k ≡ get_or (map key_in (map (paged (places l)) es)) p d → filter (in_range k k) es ≡ take 1 (drop p es)
 one_of l [] p k d up ints_are lt e = absurd (omega (arith, lt))
 one_of l (r ∷ es) zero k d up ints_are lt e =
-    let none : filter (in_range k k) es ≡ [] = subst (λ (z : ℤ). filter (in_range z z) es ≡ []) (sym e) (none_behind r es ints_are.0 up.0 ints_are.1) in
+    let none : filter (in_range k k) es ≡ [] = subst (λ (z : ℤ). filter (in_range z z) es ≡ []) (sym e)
+    (none_behind r es ints_are.0 up.0 ints_are.1) in
     rw (self k (key_of r) e, none) refl
 one_of l (r ∷ es) (suc p) k d up ints_are lt e =
-    let less : key_of r <ℤ k = subst (λ (z : ℤ). key_of r <ℤ z) (sym e) (greater l r es p d ints_are.0 up.0 ints_are.1 (omega (arith, lt))) in
+    let less : key_of r <ℤ k = subst (λ (z : ℤ). key_of r <ℤ z) (sym e)
+    (greater l r es p d ints_are.0 up.0 ints_are.1 (omega (arith, lt))) in
     rw (not_below k (key_of r) less) (one_of l es p k d up.1 ints_are.1 (omega (arith, lt)) e)
 
 inside_at : (l : Layout) (es : List SqlRow) (p : ℕ) (d : ℤ) → Inside least greatest es → p < length es
@@ -80,8 +85,10 @@ first_paged l (suc p) [] = refl
 first_paged l (suc p) (e ∷ es) = first_paged l p es
 
 -- the one row of a key is the row at the key's place
-pub single : (l : Layout) (p : ℕ) (k d : ℤ) (entries : List SqlRow) → IsShaped shape.Table entries → p < length (range_of (places l) least greatest entries)
-    → k ≡ get_or (map key_in (range_of (places l) least greatest entries)) p d → range_of (places l) k k entries ≡ take 1 (drop p (range_of (places l) least greatest entries))
+pub single : (l : Layout) (p : ℕ) (k d : ℤ) (entries : List SqlRow) → IsShaped shape.Table entries
+    → p < length (range_of (places l) least greatest entries)
+    → k ≡ get_or (map key_in (range_of (places l) least greatest entries)) p d
+    → range_of (places l) k k entries ≡ take 1 (drop p (range_of (places l) least greatest entries))
 single l p k d entries shaped lt e =
     let es = filter (in_range least greatest) entries in
     let inside = inside_filter greatest least entries in
@@ -89,7 +96,8 @@ single l p k d entries shaped lt e =
     let ints_are = all-filter (λ r. IsTrue (is_int (rowid r))) (in_range least greatest) entries shaped.1 in
     let n = length-map es (paged (places l)) in
     let within : p < length es = omega (arith, lt, n) in
-    let at : between least greatest k ≡ true = subst (λ (z : ℤ). between least greatest z ≡ true) (sym e) (inside_at l es p d inside within) in
+    let at : between least greatest k ≡ true = subst (λ (z : ℤ). between least greatest z ≡ true) (sym e)
+    (inside_at l es p d inside within) in
     let wider = filter-filter (in_range k k) (in_range least greatest) (λ r h. inner k (key_of r) at h) entries in
     ap (map (paged (places l))) (sym wider ∙ one_of l es p k d up ints_are within e) ∙ first_paged l p es
 
@@ -110,8 +118,10 @@ left_at zero (x ∷ xs) lt = omega arith
 left_at (suc p) (x ∷ xs) lt = left_at p xs (omega (arith, lt))
 
 -- what was read by the key at a place is the row there
-pub row_there : (l : Layout) (p : ℕ) (k d : ℤ) (entries before : List SqlRow) (row : SqlRow) → IsShaped shape.Table entries → p < length (range_of (places l) least greatest entries)
-    → k ≡ get_or (map key_in (range_of (places l) least greatest entries)) p d → take 64 (range_of (places l) k k entries) ≡ before ++ row ∷ []
+pub row_there : (l : Layout) (p : ℕ) (k d : ℤ) (entries before : List SqlRow) (row : SqlRow) → IsShaped shape.Table entries
+    → p < length (range_of (places l) least greatest entries)
+    → k ≡ get_or (map key_in (range_of (places l) least greatest entries)) p d
+    → take 64 (range_of (places l) k k entries) ≡ before ++ row ∷ []
     → drop p (range_of (places l) least greatest entries) ≡ row ∷ drop (p + 1) (range_of (places l) least greatest entries)
 row_there l p k d entries before row shaped lt e read =
     let rows = range_of (places l) least greatest entries in
@@ -125,7 +135,8 @@ dropped l zero xs = refl
 dropped l (suc p) [] = refl
 dropped l (suc p) (x ∷ xs) = dropped l p xs
 
-cell_there : (column p : ℕ) (rows rs : List TableRow) (r : TableRow) → drop p rows ≡ r ∷ rs → cell (column_cells column rows) p ≡ cell r.cells column
+cell_there : (column p : ℕ) (rows rs : List TableRow) (r : TableRow) → drop p rows ≡ r ∷ rs
+    → cell (column_cells column rows) p ≡ cell r.cells column
 cell_there column zero [] rs r e = absurd cc
 cell_there column zero (x ∷ rows) rs r e = ap (λ (l : List TableRow). first l) e
   where
@@ -159,7 +170,8 @@ module _ (l : Layout) (es : List SqlRow) (column : ℕ) (v : Datum) where
       record { parts = sym w.same; here = w.has }
 
   -- a place after one of the value
-  pub goes_on : (at : ℕ) (found : List SqlRow) → at < length (range_of (places l) least greatest es) → IsFound l es column v at found → Follows v cells (at + 1)
+  pub goes_on : (at : ℕ) (found : List SqlRow) → at < length (range_of (places l) least greatest es) → IsFound l es column v at found
+      → Follows v cells (at + 1)
   goes_on at found lt h k e =
       let same : at ≡ k = omega (arith, e) in
       let n = rows_count in
@@ -168,7 +180,8 @@ module _ (l : Layout) (es : List SqlRow) (column : ℕ) (v : Datum) where
 
   -- one row more
   pub one_found : (at to : ℕ) (found : List SqlRow) (row : SqlRow) → at < length (range_of (places l) least greatest es)
-      → drop at (range_of (places l) least greatest es) ≡ row ∷ drop (at + 1) (range_of (places l) least greatest es) → to ≡ first_place (at + 1) v (drop (at + 1) cells) → IsFound l es column v at found
+      → drop at (range_of (places l) least greatest es) ≡ row ∷ drop (at + 1) (range_of (places l) least greatest es)
+      → to ≡ first_place (at + 1) v (drop (at + 1) cells) → IsFound l es column v at found
       → IsFound l es column v to (found ++ row ∷ [])
   one_found at to found row lt there is h =
       let test = has_value column v in
@@ -177,9 +190,11 @@ module _ (l : Layout) (es : List SqlRow) (column : ℕ) (v : Datum) where
       let next : drop at rows ≡ row_in l row ∷ drop (at + 1) rows =
       dropped l at (range_of (places l) least greatest es) ∙ ap (map (row_in l)) there
       ∙ ap (λ (rs : List TableRow). row_in l row ∷ rs) (sym (dropped l (at + 1) (range_of (places l) least greatest es))) in
-      let yes : test (row_in l row) ≡ true = ap (equals v) (sym (cell_there column at rows (drop (at + 1) rows) (row_in l row) next)) ∙ h.here (omega (arith, lt, n)) in
+      let yes : test (row_in l row) ≡ true = ap (equals v) (sym (cell_there column at rows (drop (at + 1) rows) (row_in l row) next))
+      ∙ h.here (omega (arith, lt, n)) in
       let here : filter test (drop at rows) ≡ row_in l row ∷ filter test (drop to rows) =
-      ap (filter test) next ∙ ap (λ (b : Bool). cond b (row_in l row ∷ filter test (drop (at + 1) rows)) (filter test (drop (at + 1) rows))) yes
+      ap (filter test) next ∙ ap (λ (b : Bool). cond b (row_in l row ∷ filter test (drop (at + 1) rows))
+      (filter test (drop (at + 1) rows))) yes
       ∙ ap (λ (rs : List TableRow). row_in l row ∷ rs) w.same in
       record {
         parts =
@@ -191,18 +206,23 @@ module _ (l : Layout) (es : List SqlRow) (column : ℕ) (v : Datum) where
 
 -- ---- by a lookup
 
-key_count : (l : Layout) (es : List SqlRow) (x : Lookup) → IsLookup l es x → length x.keys.items ≡ length (range_of (places l) least greatest es)
+key_count : (l : Layout) (es : List SqlRow) (x : Lookup) → IsLookup l es x
+    → length x.keys.items ≡ length (range_of (places l) least greatest es)
 key_count l es x is = ap length is.keys_are ∙ length-map (range_of (places l) least greatest es) key_in
 
 pub found_first : (l : Layout) (es : List SqlRow) (x : Lookup) (v : Datum) (to : ℕ) (found : List SqlRow) → IsLookup l es x
-    → ((cells : List Datum) → IsIndexFrom 0 cells x.index → Follows v cells 0 → to ≡ first_place 0 v (drop 0 cells)) → found ≡ [] → IsFound l es x.column v to found
+    → ((cells : List Datum) → IsIndexFrom 0 cells x.index → Follows v cells 0 → to ≡ first_place 0 v (drop 0 cells)) → found ≡ []
+    → IsFound l es x.column v to found
 found_first l es x v to found is next none =
-    subst (IsFound l es x.column v to) (sym none) (none_found l es x.column v to (next (column_cells x.column (rows_in l es)) is.index_is (λ k e. absurd (omega (arith, e)))))
+    subst (IsFound l es x.column v to) (sym none)
+    (none_found l es x.column v to (next (column_cells x.column (rows_in l es)) is.index_is (λ k e. absurd (omega (arith, e)))))
 
-pub found_further : (l : Layout) (db after : Database) (x : Lookup) (v : Datum) (at to : ℕ) (key : ℤ) (before found new : List SqlRow) (row : SqlRow) → after ≡ db
+pub found_further : (l : Layout) (db after : Database) (x : Lookup) (v : Datum) (at to : ℕ) (key : ℤ) (before found new : List SqlRow)
+    (row : SqlRow) → after ≡ db
     → IsShaped shape.Table (entries_of db l) → IsLookup l (entries_of db l) x → at < length x.keys.items → key ≡ get_or x.keys.items at key
     → take 64 (range_of (places l) key key (entries_of after l)) ≡ before ++ row ∷ []
-    → ((cells : List Datum) → IsIndexFrom 0 cells x.index → Follows v cells (at + 1) → to ≡ first_place (at + 1) v (drop (at + 1) cells)) → new ≡ found ++ row ∷ []
+    → ((cells : List Datum) → IsIndexFrom 0 cells x.index → Follows v cells (at + 1) → to ≡ first_place (at + 1) v (drop (at + 1) cells))
+    → new ≡ found ++ row ∷ []
     → IsFound l (entries_of db l) x.column v at found → IsFound l (entries_of db l) x.column v to new
 found_further l db after x v at to key before found new row same shaped is lt key_is read next new_is h =
     let es = entries_of db l in

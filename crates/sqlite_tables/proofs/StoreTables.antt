@@ -13,14 +13,16 @@ use Rattle.sqlite_catalog.proofs.LayoutLemmas.{objects_rise, table_shape}
 use Rattle.sqlite_tables.specs.Steady.{IsSteady}
 use Rattle.sqlite_tables.specs.Texts.{IsPageOf}
 
-pub steady_table : {S : Type 0} (g : Ghosts S) (c : Held S) (text : List ℕ) (tree : ℕ) (shown : List ℕ) → IsSteady (g.view c.store) → IsLive (state g c)
+pub steady_table : {S : Type 0} (g : Ghosts S) (c : Held S) (text : List ℕ) (tree : ℕ) (shown : List ℕ) → IsSteady (g.view c.store)
+    → IsLive (state g c)
     → IsPageOf c.schema text tree shown → IsShaped shape.Table ((g.view c.store).trees tree)
 steady_table g c text tree shown steady live is =
     let sound = (live steady.is_open).0 in
     let v = g.view c.store in
     let rise = (objects_rise v steady.listed steady.ordered).0 in
     let at = (table_shape steady.listed rise sound.lists.listed is.table (has_got c.schema.tables is.place is.table is.at)).0 in
-    let here : IsShaped shape.Table (v.trees is.table.tree) = subst (λ (s : Shape). IsShaped s (v.trees is.table.tree)) at (steady.ordered is.table.tree) in
+    let here : IsShaped shape.Table (v.trees is.table.tree) = subst (λ (s : Shape). IsShaped s (v.trees is.table.tree)) at
+    (steady.ordered is.table.tree) in
     subst (λ (t : ℕ). IsShaped shape.Table (v.trees t)) is.tree_is here
 
 no_doubt : doubt true ≡ 0
@@ -28,9 +30,11 @@ unfolding doubt
 no_doubt = refl
 
 -- what laws say of a store that is shut or not clean holds of none that is not broken
-pub sound_is_steady : (v : View) → (v.is_clean ≡ false → v.is_open ≡ false) → (v.is_open ≡ false → IsTrue v.is_broken) → (v.is_broken ≡ false → IsOrdered v.shape v.trees)
+pub sound_is_steady : (v : View) → (v.is_clean ≡ false → v.is_open ≡ false) → (v.is_open ≡ false → IsTrue v.is_broken)
+    → (v.is_broken ≡ false → IsOrdered v.shape v.trees)
     → (v.is_broken ≡ false → IsListed (v.trees catalog_tree) v.shape v.reals) → v.is_broken ≡ false → IsSteady v
-sound_is_steady v dirty shut ordered listed sound = record { clean = is_clean v.is_clean refl; is_open = is_up v.is_open refl; ordered = ordered sound; listed = listed sound }
+sound_is_steady v dirty shut ordered listed sound = record
+    { clean = is_clean v.is_clean refl; is_open = is_up v.is_open refl; ordered = ordered sound; listed = listed sound }
   where
     not_shut : v.is_open ≡ false → ⊥
     not_shut e = let b = sym (shut e) ∙ sound in cc

@@ -26,9 +26,9 @@ use Rattle.med_value.specs.declared.value.ColType.{ColType}
 use Rattle.med_value.specs.declared.value.ColType.TheVariants as types
 use Rattle.sqlite_tables.specs.declared.columns.PageColumn.{PageColumn}
 
--- a remote table: its name, its columns, the places of a stored row that a page shows after the rowid, the cells that an INSERT stores after
--- the rowid, each a parameter or NULL, and three texts: the one that reads a page, the one that takes the row of a key out, and the one that
--- puts a row in. A column has its place in a row of a page, where 0 is the key, and its type
+-- a remote table: its name, its columns, the places of a stored row that a page shows after the rowid, the cells that an INSERT stores
+-- after the rowid, each a parameter or NULL, and three texts: the one that reads a page, the one that takes the row of a key out, and the
+-- one that puts a row in. A column has its place in a row of a page, where 0 is the key, and its type
 pub record Layout : Type 0 where
   pub name : List ℕ
   pub columns : List PageColumn

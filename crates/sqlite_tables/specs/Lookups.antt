@@ -20,7 +20,8 @@ values_in l column rows = map (λ r. cell (page_cells l r) column) rows
 -- after what was read before come the keys of these rows, and their values
 abbrev pub Adds : Layout → ℕ → List SqlRow → ColumnRead → ColumnRead → Type 0
 Adds l column rows old new =
-    (new.keys.items ≡ old.keys.items ++ map key_in rows) × (map datum new.values.items ≡ map datum old.values.items ++ values_in l column rows)
+    (new.keys.items ≡ old.keys.items ++ map key_in rows)
+    × (map datum new.values.items ≡ map datum old.values.items ++ values_in l column rows)
 
 -- the rows from one key on are these, and those from another on
 abbrev pub Parts : Layout → List SqlRow → Option ℤ → List SqlRow → Option ℤ → Type 0

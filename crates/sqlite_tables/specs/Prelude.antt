@@ -26,7 +26,8 @@ pub use Rattle.sqlite_tables.specs.Refusing.{OnlyBy}
 pub use Rattle.sqlite_tables.specs.Shapes.{AreTexts, orders_table, people_table}
 pub use Rattle.sqlite_tables.specs.Steady.{IsCleanAfter, IsSteady}
 pub use Rattle.sqlite_tables.specs.Surveys.{causes_of}
-pub use Rattle.sqlite_tables.specs.Tables.{IsKnown, IsSure, ReadsOnly, behind, entries_at, entries_of, entry_of, rest_of, rows_of, tree_found, tree_of}
+pub use Rattle.sqlite_tables.specs.Tables.{IsKnown, IsSure, ReadsOnly, behind, entries_at, entries_of, entry_of, rest_of, rows_of}
+pub use Rattle.sqlite_tables.specs.Tables.{tree_found, tree_of}
 pub use Rattle.sqlite_tables.specs.Reporting.{FailsToCount, FailsToRead, IsFailureOf, IsReportedPage, IsSourceFor, IsUnfit}
 pub use Rattle.sqlite_tables.specs.Texts.{
   IsDeleteFrom,

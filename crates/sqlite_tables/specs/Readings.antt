@@ -1,4 +1,4 @@
--- What binding a remote table with declared columns gives: the causes that stand, and the rows.
+-- What a remote table gives that is bound with declared columns: causes of refusal, and rows.
 use Rattle.std.specs.Prelude.{◌≡◌, Bool, true, false, ◌&&◌, List, [], ◌∷◌, map, length, Option, Some, None, if◌then◌else◌, nat_lt}
 use Rattle.std.specs.List.{list_all}
 use mathlib.Core.Path.{refl, ap, ◌∙◌, sym, subst}

@@ -38,8 +38,8 @@ FailsToRead {S} g l old new fault =
 abbrev pub IsUnfit : Layout → List SqlRow → Type 0
 IsUnfit l entries = (is_paged l ≡ false) ⊎ (causes_in l entries ≢ [])
 
--- a failure of the source for which no error was reported: where the store always returns what was written, and where the call is sure, this is
--- so of the table
+-- a failure of the source for which no error was reported: where the store always returns what was written, and where the call is sure,
+-- this is so of the table
 abbrev pub IsSourceFor : Bool → Layout → State → State → Type 0 → Fault → Type 0
 IsSourceFor honest l old new Reason fault = (fault ≡ Source) × (honest ≡ true → Reason) × (IsSure old new l → Reason)
 

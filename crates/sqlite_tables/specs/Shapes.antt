@@ -16,8 +16,8 @@ use Rattle.sqlite_looks.specs.Changes.{cell_term, delete_query}
 use Rattle.sqlite_tables.specs.Layouts.{Layout, further_kinds, orders, people, places}
 use Rattle.sqlite_tables.specs.Texts.{IsDeleteFrom, IsInsertInto, IsPageOf, ShowsAgain}
 
--- under this schema the three texts of a layout are for the table in this tree: they read a page of it, take a row out, and put one in, which
--- a page then shows as it was put in
+-- under this schema the three texts of a layout are for the table in this tree: they read a page of it, take a row out, and put one in,
+-- which a page then shows as it was put in
 pub record AreTexts (schema : Schema) (l : Layout) (tree : ℕ) : Type 0 where
   pub page : IsPageOf schema l.page tree (places l)
   pub delete : IsDeleteFrom schema l.deleting tree
@@ -76,11 +76,13 @@ people_delete : command_of (understood (alone (people_table 0)) people.deleting)
 unfolding understood everything
 people_delete = refl
 
-orders_insert : command_of (understood (alone (orders_table 0)) orders.inserting) ≡ Insert 0 (Values (map cell_term (Some 0 ∷ None ∷ Some 1 ∷ Some 2 ∷ [])) 4)
+orders_insert : command_of (understood (alone (orders_table 0)) orders.inserting) ≡ Insert 0
+    (Values (map cell_term (Some 0 ∷ None ∷ Some 1 ∷ Some 2 ∷ [])) 4)
 unfolding understood everything
 orders_insert = refl
 
-people_insert : command_of (understood (alone (people_table 0)) people.inserting) ≡ Insert 0 (Values (map cell_term (Some 0 ∷ None ∷ Some 1 ∷ Some 2 ∷ [])) 4)
+people_insert : command_of (understood (alone (people_table 0)) people.inserting) ≡ Insert 0
+    (Values (map cell_term (Some 0 ∷ None ∷ Some 1 ∷ Some 2 ∷ [])) 4)
 unfolding understood everything
 people_insert = refl
 

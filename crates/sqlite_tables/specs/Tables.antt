@@ -1,5 +1,6 @@
 -- What a database holds for a layout, and the pages of its rows.
-use Rattle.std.specs.Prelude.{◌≡◌, ◌⊎◌, ℕ, ℤ, pos, ◌+ℤ◌, List, [], ◌∷◌, map, length, nat_eq, if◌then◌else◌, Option, Some, None, option_map, Err}
+use Rattle.std.specs.Prelude.{◌≡◌, ◌⊎◌, ℕ, ℤ, pos, ◌+ℤ◌, List, [], ◌∷◌, map, length, nat_eq, if◌then◌else◌, Option, Some, None}
+use Rattle.std.specs.Prelude.{option_map, Err}
 use Rattle.sqlite.specs.Effect.{Database}
 use Rattle.sqlite.specs.State.{State}
 use Rattle.sqlite.specs.View.{IsShaped}
@@ -46,7 +47,8 @@ rows_of db l = rows_in l (entries_of db l)
 
 -- each layout's page text either is not understood or reads a page of a table
 abbrev pub IsKnown : Schema → Layout → Type 0
-IsKnown schema l = ((fault : CompileError) × (understood schema l.page ≡ Err fault)) ⊎ ((tree : ℕ) × IsPageOf schema l.page tree (places l))
+IsKnown schema l = ((fault : CompileError) × (understood schema l.page ≡ Err fault))
+    ⊎ ((tree : ℕ) × IsPageOf schema l.page tree (places l))
 
 -- a call on the table of a layout that changes nothing, where the disk is clean as it ends and the layout's page text is known; and then
 -- the disk was clean as it began

@@ -1,24 +1,6 @@
 -- What the texts of a table mean under a schema: those that read a page of it, take a row out, and put one in.
-use Rattle.std.specs.Prelude.{
-  ◌≡◌,
-  ℕ,
-  ◌+◌,
-  Bool,
-  true,
-  false,
-  List,
-  [],
-  ◌∷◌,
-  map,
-  length,
-  Option,
-  Some,
-  None,
-  Err,
-  slice_get,
-  slice_index_or,
-  if◌then◌else◌,
-}
+use Rattle.std.specs.Prelude.{◌≡◌, ℕ, ◌+◌, false, List, [], ◌∷◌, map, length, Option, Some, None, Err, slice_get, slice_index_or}
+use Rattle.std.specs.Prelude.{if◌then◌else◌}
 use Rattle.med_value.specs.declared.value.ColType.{ColType}
 use Rattle.med_value.specs.declared.value.ColType.TheVariants as types
 use Rattle.sqlite.specs.Order.{Row}
@@ -82,8 +64,8 @@ pub record IsInsertInto (schema : Schema) (text : List ℕ) (tree : ℕ) (cells 
   pub uncounted : target.table.is_counted ≡ false
   pub unstamped : target.table.stamps.terms ≡ []
 
--- the parameters of the columns of a row that is put in, from the next on: the key is parameter 0, and the columns that are not the key have
--- the parameters after it, in their order
+-- the parameters of the columns of a row that is put in, from the next on: the key is parameter 0, and the columns that are not the key
+-- have the parameters after it, in their order
 abbrev pub parameters_from : ℕ → List PageColumn → List ℕ
 parameters_from next [] = []
 parameters_from next (c ∷ cs) = if is_key c then 0 ∷ parameters_from next cs else next ∷ parameters_from (next + 1) cs

@@ -29,12 +29,14 @@ fn row_of_key<S: SourceStore>(
     requires idle { conn.old.in_transaction ≡ false }
     requires known { S.honest ≡ true → ∥ IsKnown conn.old.schema shape.now ∥₁ }
     ensures last { S.honest ≡ true → IfOk result (λ row. (before : List SqlRow)
-        × (take page_size (range_of (places shape.now) key key (entries_of (state S.Store conn.old).now shape.now)) ≡ before ++ row ∷ [])) }
+        × (take page_size (range_of (places shape.now) key key (entries_of (state S.Store conn.old).now shape.now))
+        ≡ before ++ row ∷ [])) }
     ensures refused { IfErr result not_refused }
     ensures same { S.honest ≡ true → (state S.Store conn.new).now ≡ (state S.Store conn.old).now }
     ensures sure_last { IsSure (state S.Store conn.old) (state S.Store conn.new) shape.now
         → IfOk result (λ row. (before : List SqlRow)
-        × (take page_size (range_of (places shape.now) key key (entries_of (state S.Store conn.old).now shape.now)) ≡ before ++ row ∷ [])) }
+        × (take page_size (range_of (places shape.now) key key (entries_of (state S.Store conn.old).now shape.now))
+        ≡ before ++ row ∷ [])) }
     ensures reads { ReadsOnly (state S.Store conn.old) (state S.Store conn.new) shape.now }
     ensures idle { conn.new.in_transaction ≡ false }
 {

@@ -1,6 +1,6 @@
-//! The tables of SQLite databases as a source of foreign tables sees them, read and written by three texts: their layouts, the cells of their
-//! rows, and pages of them by key range; such tables looked at whole, as they are when they are bound; and their rows by the values of one
-//! of their columns.
+//! The tables of SQLite databases as a source of foreign tables sees them, read and written by three texts: their layouts, the cells of
+//! their rows, and pages of them by key range; such tables looked at whole, as they are when they are bound; and their rows by the values
+//! of one of their columns.
 #![tactic(auto)]
 
 pub mod cells;

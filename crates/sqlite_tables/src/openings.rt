@@ -18,10 +18,10 @@ use sqlite::Connection;
 
 /// Looks at a remote table whole, which is to be bound with these columns, and returns how many rows it has.
 ///
-/// Refused where there is no such table, or one of another shape (HV00R), where the number or types of the columns are not its own (HV004),
-/// where a cell is not of its column's type or a text has U+0000 (22P02), and where there are more than 1,000,000 rows (54000), by one of
-/// the least phase. No two rows have one id. It changes nothing, also where it fails. This holds over a store that always returns what was
-/// written, and of each call by itself that is sure (`IsSure`).
+/// Refused where there is no such table, or one of another shape (HV00R), where the number or types of the columns are not its own
+/// (HV004), where a cell is not of its column's type or a text has U+0000 (22P02), and where there are more than 1,000,000 rows (54000),
+/// by one of the least phase. No two rows have one id. It changes nothing, also where it fails. This holds over a store that always
+/// returns what was written, and of each call by itself that is sure (`IsSure`).
 pub fn open_table<S: SourceStore>(
     conn: &mut Connection<S>,
     shape: &Shape,

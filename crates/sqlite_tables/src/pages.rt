@@ -20,8 +20,8 @@ use sqlite::{Connection, Row};
 ///
 /// Fails when out of memory, or as the source, as the error is that the connection reported of the page text; no cause of refusal is
 /// reported. It changes nothing, also where it fails. After a page of 64 rows come those of the keys after its last one; after a page of
-/// fewer there is none. A table that is not there is never read. This holds over a store that always returns what was written, and of each
-/// call by itself that is sure (`IsSure`).
+/// fewer there is none. The rows of a table are in the order of their keys. A table that is not there is never read. This holds over a
+/// store that always returns what was written, and of each call by itself that is sure (`IsSure`).
 pub fn page_between<S: SourceStore>(
     conn: &mut Connection<S>,
     shape: &Shape,

@@ -121,7 +121,8 @@ fn read_page<S: SourceStore>(
     requires idle { conn.old.in_transaction ≡ false }
     requires known { S.honest ≡ true → ∥ IsKnown conn.old.schema shape.now ∥₁ }
     ensures adds { S.honest ≡ true → IfOk result (λ next. (page : List SqlRow)
-        × Parts shape.now (entries_of (state S.Store conn.old).now shape.now) (Some low) page next × Adds shape.now column page read.old read.new) }
+        × Parts shape.now (entries_of (state S.Store conn.old).now shape.now) (Some low) page next
+        × Adds shape.now column page read.old read.new) }
     ensures refused { IfErr result not_refused }
     ensures same { S.honest ≡ true → (state S.Store conn.new).now ≡ (state S.Store conn.old).now }
     ensures sure_adds { IsSure (state S.Store conn.old) (state S.Store conn.new) shape.now
@@ -194,8 +195,8 @@ fn index_of(alloc: Global, values: Vec<Value>) -> Result<PlaceIndex, NoMemory>
 
 /// Reads the keys of a table and the values of one of its columns, so that its rows can be found by that value.
 ///
-/// Fails as the source where the table has more than 1,000,000 rows, or a cell that is not of its column's type. Nothing changes, also where
-/// it fails. This holds over a store that always returns what was written, and of each call by itself that is sure (`IsSure`).
+/// Fails as the source where the table has more than 1,000,000 rows, or a cell that is not of its column's type. Nothing changes, also
+/// where it fails. This holds over a store that always returns what was written, and of each call by itself that is sure (`IsSure`).
 pub fn read_lookup<S: SourceStore>(
     alloc: Global,
     conn: &mut Connection<S>,

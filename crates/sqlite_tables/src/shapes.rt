@@ -9,7 +9,8 @@ use med_value::{ColType, NoMemory};
 use std::alloc::Global;
 use std::marker::Model;
 
-/// The shape of a remote table: its name, its columns, what a page shows, what an INSERT stores, and its texts. Clauses see it as a layout.
+/// The shape of a remote table: its name, its columns, what a page shows, what an INSERT stores, and its texts. Clauses see it as a
+/// layout.
 #[derive(Debug, Drop)]
 pub struct Shape {
     name: String,
@@ -153,8 +154,8 @@ pub fn shipped_shapes(alloc: Global) -> Result<Vec<Shape>, NoMemory>
     Ok(vec![in alloc; orders, people]?)
 }
 
-/// In a database of one such table alone the texts of each of these shapes are for it: the page text gives the first rows of a key range in
-/// key order, the delete text takes the row of a key out, and the insert text puts a row in, which a page then shows as it was put in.
+/// In a database of one such table alone the texts of each of these shapes are for it: the page text gives the first rows of a key range
+/// in key order, the delete text takes the row of a key out, and the insert text puts a row in, which a page then shows as it was put in.
 pub fn texts_are_for_their_tables()
     ensures orders { IsShape orders (orders_table 0) }
     ensures people { IsShape people (people_table 0) }

@@ -38,8 +38,8 @@ fn check_rows(shape: &Shape, page: &[Row]) -> Result<Option<i64>, Misread>
     Ok(last)
 }
 
-/// Returns the key where the next page begins, after a page of `count` rows with this last key. After a page of fewer than 64 rows there is
-/// none.
+/// Returns the key where the next page begins, after a page of `count` rows with this last key. After a page of fewer than 64 rows there
+/// is none.
 pub fn next_after(count: usize, last: Option<i64>) -> Option<i64>
     ensures { result ≡ next_after count last }
 {
@@ -89,12 +89,14 @@ fn survey_page<S: SourceStore>(
     ensures full { IfOk result (λ s. IfSome s.next (λ _. s.count ≡ 64)) }
     ensures counted { IfOk result (λ s. s.count < 2 ^ 63) }
     ensures refused { IfErr result (OnlyBy (λ c. (c ≡ InvalidText) × (S.honest ≡ true
-        → list_all (fits_in shape.now) (range_of (places shape.now) low greatest (entries_of (state S.Store conn.old).now shape.now)) ≡ false))) }
+        → list_all (fits_in shape.now)
+        (range_of (places shape.now) low greatest (entries_of (state S.Store conn.old).now shape.now)) ≡ false))) }
     ensures same { S.honest ≡ true → (state S.Store conn.new).now ≡ (state S.Store conn.old).now }
     ensures sure_seen { IsSure (state S.Store conn.old) (state S.Store conn.new) shape.now
         → IfOk result (λ s. IsSeen shape.now (entries_of (state S.Store conn.old).now shape.now) (Some low) s.next s.count) }
     ensures sure_refused { IfErr result (OnlyBy (λ _. IsSure (state S.Store conn.old) (state S.Store conn.new) shape.now
-        → list_all (fits_in shape.now) (range_of (places shape.now) low greatest (entries_of (state S.Store conn.old).now shape.now)) ≡ false)) }
+        → list_all (fits_in shape.now)
+        (range_of (places shape.now) low greatest (entries_of (state S.Store conn.old).now shape.now)) ≡ false)) }
     ensures reported { IfErr result (λ fault.
         IsReportedPage shape.now low greatest (state S.Store conn.old) (state S.Store conn.new) fault
         ⊎ (fault ≡ Fault.Refused InvalidText)
@@ -165,9 +167,9 @@ pub(crate) fn read_whole<S: SourceStore>(
 
 /// Returns the number of rows of a table whose rows are of its columns' types, and at most 1,000,000.
 ///
-/// Fails when out of memory, or as the source, as the error is that the connection reported of a page; and as the source where the table is
-/// another one, whose rows give a cause, or whose pages do not show each column (`FailsToCount`). It changes nothing, also where it fails.
-/// This holds over a store that always returns what was written, and of each call by itself that is sure (`IsSure`).
+/// Fails when out of memory, or as the source, as the error is that the connection reported of a page; and as the source where the table
+/// is another one, whose rows give a cause, or whose pages do not show each column (`FailsToCount`). It changes nothing, also where it
+/// fails. This holds over a store that always returns what was written, and of each call by itself that is sure (`IsSure`).
 pub fn count_rows<S: SourceStore>(conn: &mut Connection<S>, shape: &Shape) -> Result<usize, Fault>
     requires idle { conn.old.in_transaction ≡ false }
     requires known { S.honest ≡ true → ∥ IsKnown conn.old.schema shape.now ∥₁ }

@@ -16,16 +16,19 @@ loop-at-init g c =
       few = rw none (omega arith);
       found = λ h.
           let l = c.args.shape.now in
-          found_first l (entries_of (state g.S.Store c.args.conn.now).now l) c.args.lookup.now (datum c.args.value.now) c.next_place-at.result c.new-rows.result.items (c.requires.is h) c.next_place-at.ensures none;
+          found_first l (entries_of (state g.S.Store c.args.conn.now).now l) c.args.lookup.now
+          (datum c.args.value.now) c.next_place-at.result c.new-rows.result.items (c.requires.is h) c.next_place-at.ensures none;
       reads = reads_none (state g.S.Store c.args.conn.now) c.args.shape.now;
       sure_found = λ h is.
           let l = c.args.shape.now in
-          found_first l (entries_of (state g.S.Store c.args.conn.now).now l) c.args.lookup.now (datum c.args.value.now) c.next_place-at.result c.new-rows.result.items is c.next_place-at.ensures none;
+          found_first l (entries_of (state g.S.Store c.args.conn.now).now l) c.args.lookup.now
+          (datum c.args.value.now) c.next_place-at.result c.new-rows.result.items is c.next_place-at.ensures none;
     }
 
 pub row_of_key-requires-clause-known : goal.row_of_key-requires-clause-known
 row_of_key-requires-clause-known g c h =
-    known_after (state g.S.Store c.args.conn.now).now (state g.S.Store c.loop-at.conn).now c.args.shape.now (c.loop-at.invariant.same h) (c.requires.known h)
+    known_after (state g.S.Store c.args.conn.now).now (state g.S.Store c.loop-at.conn).now c.args.shape.now (c.loop-at.invariant.same h)
+    (c.requires.known h)
 
 pub loop-at-preserved : goal.loop-at-preserved
 loop-at-preserved g c =
@@ -45,16 +48,21 @@ loop-at-preserved g c =
       found = λ h.
           let l = c.args.shape.now in
           let read = rw e at (c.in-Ok.ensures.last h) in
-          found_further l (state g.S.Store c.args.conn.now).now (state g.S.Store c.loop-at.conn).now c.args.lookup.now (datum c.args.value.now) c.loop-at.at c.next_place-at-in-loop-at.result key read.0
-          c.loop-at.rows.items c.push.new.self.items c.in-Ok.row (c.loop-at.invariant.same h) (c.requires.shaped h) (c.requires.is h) lt key_is read.1 c.next_place-at-in-loop-at.ensures pushed (c.loop-at.invariant.found h);
+          found_further l (state g.S.Store c.args.conn.now).now (state g.S.Store c.loop-at.conn).now c.args.lookup.now
+          (datum c.args.value.now) c.loop-at.at c.next_place-at-in-loop-at.result key read.0
+          c.loop-at.rows.items c.push.new.self.items c.in-Ok.row (c.loop-at.invariant.same h) (c.requires.shaped h)
+          (c.requires.is h) lt key_is read.1 c.next_place-at-in-loop-at.ensures pushed (c.loop-at.invariant.found h);
       reads = reads_then c.loop-at.invariant.reads c.row_of_key.ensures.reads;
       sure_found = λ h is.
           let l = c.args.shape.now in
           let first = c.loop-at.invariant.reads in
           let next = c.row_of_key.ensures.reads in
           let read = rw e at (c.in-Ok.ensures.sure_last (sure_then first next h)) in
-          found_further l (state g.S.Store c.args.conn.now).now (state g.S.Store c.loop-at.conn).now c.args.lookup.now (datum c.args.value.now) c.loop-at.at c.next_place-at-in-loop-at.result key read.0
-          c.loop-at.rows.items c.push.new.self.items c.in-Ok.row (sure_same first next h) h.ordered is lt key_is read.1 c.next_place-at-in-loop-at.ensures pushed (c.loop-at.invariant.sure_found (sure_first next h) is);
+          found_further l (state g.S.Store c.args.conn.now).now (state g.S.Store c.loop-at.conn).now c.args.lookup.now
+          (datum c.args.value.now) c.loop-at.at c.next_place-at-in-loop-at.result key read.0
+          c.loop-at.rows.items c.push.new.self.items c.in-Ok.row
+          (sure_same first next h) h.ordered is lt key_is read.1 c.next_place-at-in-loop-at.ensures pushed
+          (c.loop-at.invariant.sure_found (sure_first next h) is);
     }
 
 pub returns-in-Err-clause-reads : goal.returns-in-Err-clause-reads

@@ -18,12 +18,17 @@ returns-in-Err-clause-refused g c =
     let l = c.args.shape.now in
     let db = (state g.S.Store c.args.conn.now).now in
     only_more _ _ c.in-Err.fault
-    (λ cause by. (subst (λ (d : Cause). is_late (phase_of d) ≡ true) (sym by.0) refl, λ h. least_told declared (entry_of db l) cause (not_found db l declared cause (by.1 h) by.0)))
+    (λ cause by. (
+      subst (λ (d : Cause). is_late (phase_of d) ≡ true) (sym by.0) refl,
+      λ h. least_told declared (entry_of db l) cause
+          (not_found db l declared cause (by.1 h) by.0),
+    ))
     c.in-Err.ensures.refused
 
 pub read_whole-requires-clause-known : goal.read_whole-requires-clause-known
 read_whole-requires-clause-known g c h =
-    known_after (state g.S.Store c.args.conn.now).now (state g.S.Store c.find_table.new.conn).now c.args.shape.now (c.find_table.ensures.same h) (c.requires.known h)
+    known_after (state g.S.Store c.args.conn.now).now (state g.S.Store c.find_table.new.conn).now c.args.shape.now
+    (c.find_table.ensures.same h) (c.requires.known h)
 
 pub returns-then-not-types_match-clause-refused : goal.returns-then-not-types_match-clause-refused
 returns-then-not-types_match-clause-refused g c =
@@ -46,7 +51,8 @@ returns-clause-ok g c h =
 pub returns-clause-count : goal.returns-clause-count
 returns-clause-count g c h =
     let l = c.args.shape.now in
-    subst (λ (d : Database). IfOk c.read_whole.result (λ n. n ≡ length (rows_of d l))) (c.find_table.ensures.same h) (c.read_whole.ensures.count h)
+    subst (λ (d : Database). IfOk c.read_whole.result (λ n. n ≡ length (rows_of d l))) (c.find_table.ensures.same h)
+    (c.read_whole.ensures.count h)
 
 pub returns-clause-refused : goal.returns-clause-refused
 returns-clause-refused g c =
@@ -60,7 +66,9 @@ returns-clause-refused g c =
       λ h.
           let same = c.find_table.ensures.same h in
           let is = opened db l declared (c.in-Ok.ensures.found h) e in
-          least_told declared (entry_of db l) cause (subst (λ (cs : List Cause). Contains cs cause) (ap (λ (d : Database). causes_in l (entries_of d l)) same ∙ sym is) (by.1 h)),
+          least_told declared (entry_of db l) cause
+          (subst (λ (cs : List Cause). Contains cs cause) (ap (λ (d : Database). causes_in l (entries_of d l)) same ∙ sym is)
+          (by.1 h)),
     ))
     c.read_whole.ensures.refused
 
@@ -91,14 +99,16 @@ returns-clause-sure_ok g c h =
     let found = sure_first next h in
     let is = opened db l (kinds_of (map column_of c.args.columns.now)) (c.in-Ok.ensures.sure_found found.after found.known) e in
     done_more c.read_whole.result _ _ (λ (none : causes_in l (entries_of (state g.S.Store c.find_table.new.conn).now l) ≡ []).
-    is ∙ sym (ap (λ (d : Database). causes_in l (entries_of d l)) (sure_same first next h)) ∙ none) (c.read_whole.ensures.sure_ok (sure_then first next h))
+    is ∙ sym (ap (λ (d : Database). causes_in l (entries_of d l)) (sure_same first next h)) ∙ none)
+    (c.read_whole.ensures.sure_ok (sure_then first next h))
 
 pub returns-clause-sure_count : goal.returns-clause-sure_count
 returns-clause-sure_count g c h =
     let l = c.args.shape.now in
     let first = c.find_table.ensures.reads in
     let next = c.read_whole.ensures.reads in
-    subst (λ (d : Database). IfOk c.read_whole.result (λ n. n ≡ length (rows_of d l))) (sure_same first next h) (c.read_whole.ensures.sure_count (sure_then first next h))
+    subst (λ (d : Database). IfOk c.read_whole.result (λ n. n ≡ length (rows_of d l))) (sure_same first next h)
+    (c.read_whole.ensures.sure_count (sure_then first next h))
 
 pub returns-clause-sure_once : goal.returns-clause-sure_once
 returns-clause-sure_once g c h = c.find_table.ensures.sure_once (sure_first c.read_whole.ensures.reads h)
@@ -116,7 +126,8 @@ returns-clause-sure_refused g c =
     let found = sure_first next h in
     let is = opened db l declared (c.in-Ok.ensures.sure_found found.after found.known) e in
     least_told declared (entry_of db l) cause
-    (subst (λ (cs : List Cause). Contains cs cause) (ap (λ (d : Database). causes_in l (entries_of d l)) (sure_same first next h) ∙ sym is) (stands (sure_then first next h))))
+    (subst (λ (cs : List Cause). Contains cs cause)
+    (ap (λ (d : Database). causes_in l (entries_of d l)) (sure_same first next h) ∙ sym is) (stands (sure_then first next h))))
     c.read_whole.ensures.sure_refused
 
 pub returns-clause-reads : goal.returns-clause-reads

@@ -12,66 +12,82 @@ pub returns-in-Ok-clause-rows : goal.returns-in-Ok-clause-rows
 returns-in-Ok-clause-rows g c h =
     let a = to_z-of_z w64 c.args.low c.ranges.low in
     let b = to_z-of_z w64 c.args.high c.ranges.high in
-    page_rows (state g.S.Store c.args.conn.now).now c.args.shape.now c.page_text.result.now c.page_text.ensures c.args.low c.args.high c.in-Ok.page.items (c.requires.known h)
+    page_rows (state g.S.Store c.args.conn.now).now c.args.shape.now c.page_text.result.now c.page_text.ensures c.args.low c.args.high
+    c.in-Ok.page.items (c.requires.known h)
     (λ tree shown is. rw (a, b) at (c.in-Ok.ensures.rows h tree shown is)) (λ fault bad. (c.in-Ok.ensures.unread h fault bad).1)
 
 pub returns-in-Ok-clause-joins : goal.returns-in-Ok-clause-joins
 returns-in-Ok-clause-joins g c h =
     let a = to_z-of_z w64 c.args.low c.ranges.low in
     let b = to_z-of_z w64 c.args.high c.ranges.high in
-    page_joins (state g.S.Store c.args.conn.now).now c.args.shape.now c.page_text.result.now c.page_text.ensures c.args.low c.args.high c.in-Ok.page.items (c.requires.known h)
-    (c.page_of.ensures.ordered h) (λ tree shown is. rw (a, b) at (c.in-Ok.ensures.rows h tree shown is)) (λ fault bad. (c.in-Ok.ensures.unread h fault bad).1)
+    page_joins (state g.S.Store c.args.conn.now).now c.args.shape.now c.page_text.result.now c.page_text.ensures c.args.low c.args.high
+    c.in-Ok.page.items (c.requires.known h)
+    (c.page_of.ensures.ordered h) (λ tree shown is. rw (a, b) at (c.in-Ok.ensures.rows h tree shown is))
+    (λ fault bad. (c.in-Ok.ensures.unread h fault bad).1)
 
 pub returns-in-Ok-clause-read : goal.returns-in-Ok-clause-read
 returns-in-Ok-clause-read g c h =
-    was_read (state g.S.Store c.args.conn.now).now c.args.shape.now c.page_text.result.now c.page_text.ensures (c.requires.known h) (λ fault bad. (c.in-Ok.ensures.unread h fault bad).1)
+    was_read (state g.S.Store c.args.conn.now).now c.args.shape.now c.page_text.result.now c.page_text.ensures (c.requires.known h)
+    (λ fault bad. (c.in-Ok.ensures.unread h fault bad).1)
 
 pub returns-in-Ok-clause-same : goal.returns-in-Ok-clause-same
 returns-in-Ok-clause-same g c h =
-    settled (state g.S.Store c.args.conn.now).now (state g.S.Store c.page_of.new.conn).now c.args.shape.now c.page_text.result.now c.page_text.ensures (c.requires.known h)
+    settled (state g.S.Store c.args.conn.now).now
+    (state g.S.Store c.page_of.new.conn).now c.args.shape.now c.page_text.result.now c.page_text.ensures (c.requires.known h)
     (c.page_of.ensures.same h) (c.page_of.ensures.unread h)
 
 pub returns-in-Err-clause-same : goal.returns-in-Err-clause-same
 returns-in-Err-clause-same g c h =
-    settled (state g.S.Store c.args.conn.now).now (state g.S.Store c.page_of.new.conn).now c.args.shape.now c.page_text.result.now c.page_text.ensures (c.requires.known h)
+    settled (state g.S.Store c.args.conn.now).now
+    (state g.S.Store c.page_of.new.conn).now c.args.shape.now c.page_text.result.now c.page_text.ensures (c.requires.known h)
     (c.page_of.ensures.same h) (c.page_of.ensures.unread h)
 
 pub returns-in-Ok-clause-sure_rows : goal.returns-in-Ok-clause-sure_rows
 returns-in-Ok-clause-sure_rows g c h =
     let a = to_z-of_z w64 c.args.low c.ranges.low in
     let b = to_z-of_z w64 c.args.high c.ranges.high in
-    sure_rows (state g.S.Store c.args.conn.now).now c.args.shape.now c.page_text.result.now c.page_text.ensures c.args.low c.args.high c.in-Ok.page.items h.known h.ordered
-    (λ tree shown is shaped. rw (a, b) at (c.in-Ok.ensures.clean_rows h.after tree shown is shaped)) (λ fault bad. (c.in-Ok.ensures.clean_unread h.after fault bad).1)
+    sure_rows (state g.S.Store c.args.conn.now).now c.args.shape.now c.page_text.result.now c.page_text.ensures c.args.low c.args.high
+    c.in-Ok.page.items h.known h.ordered
+    (λ tree shown is shaped. rw (a, b) at (c.in-Ok.ensures.clean_rows h.after tree shown is shaped))
+    (λ fault bad. (c.in-Ok.ensures.clean_unread h.after fault bad).1)
 
 pub returns-in-Ok-clause-sure_joins : goal.returns-in-Ok-clause-sure_joins
 returns-in-Ok-clause-sure_joins g c h =
     let a = to_z-of_z w64 c.args.low c.ranges.low in
     let b = to_z-of_z w64 c.args.high c.ranges.high in
-    pages_join c.args.shape.now c.args.low c.args.high (entries_of (state g.S.Store c.args.conn.now).now c.args.shape.now) c.in-Ok.page.items h.ordered
-    (sure_rows (state g.S.Store c.args.conn.now).now c.args.shape.now c.page_text.result.now c.page_text.ensures c.args.low c.args.high c.in-Ok.page.items h.known h.ordered
-    (λ tree shown is shaped. rw (a, b) at (c.in-Ok.ensures.clean_rows h.after tree shown is shaped)) (λ fault bad. (c.in-Ok.ensures.clean_unread h.after fault bad).1))
+    pages_join c.args.shape.now c.args.low c.args.high
+    (entries_of (state g.S.Store c.args.conn.now).now c.args.shape.now) c.in-Ok.page.items h.ordered
+    (sure_rows (state g.S.Store c.args.conn.now).now c.args.shape.now c.page_text.result.now c.page_text.ensures c.args.low c.args.high
+    c.in-Ok.page.items h.known h.ordered
+    (λ tree shown is shaped. rw (a, b) at (c.in-Ok.ensures.clean_rows h.after tree shown is shaped))
+    (λ fault bad. (c.in-Ok.ensures.clean_unread h.after fault bad).1))
 
 pub returns-in-Ok-clause-sure_read : goal.returns-in-Ok-clause-sure_read
 returns-in-Ok-clause-sure_read g c after known =
-    was_read (state g.S.Store c.args.conn.now).now c.args.shape.now c.page_text.result.now c.page_text.ensures known (λ fault bad. (c.in-Ok.ensures.clean_unread after fault bad).1)
+    was_read (state g.S.Store c.args.conn.now).now c.args.shape.now c.page_text.result.now c.page_text.ensures known
+    (λ fault bad. (c.in-Ok.ensures.clean_unread after fault bad).1)
 
 pub returns-in-Ok-clause-reads : goal.returns-in-Ok-clause-reads
 returns-in-Ok-clause-reads g c =
-    page_reads (state g.S.Store c.args.conn.now) (state g.S.Store c.page_of.new.conn) c.args.shape.now c.page_text.result.now c.page_text.ensures c.page_of.ensures.was_clean
+    page_reads (state g.S.Store c.args.conn.now)
+    (state g.S.Store c.page_of.new.conn) c.args.shape.now c.page_text.result.now c.page_text.ensures c.page_of.ensures.was_clean
     c.page_of.ensures.clean_same c.page_of.ensures.clean_unread
 
 pub returns-in-Err-clause-reads : goal.returns-in-Err-clause-reads
 returns-in-Err-clause-reads g c =
-    page_reads (state g.S.Store c.args.conn.now) (state g.S.Store c.page_of.new.conn) c.args.shape.now c.page_text.result.now c.page_text.ensures c.page_of.ensures.was_clean
+    page_reads (state g.S.Store c.args.conn.now)
+    (state g.S.Store c.page_of.new.conn) c.args.shape.now c.page_text.result.now c.page_text.ensures c.page_of.ensures.was_clean
     c.page_of.ensures.clean_same c.page_of.ensures.clean_unread
 
 pub returns-in-Ok-clause-ordered : goal.returns-in-Ok-clause-ordered
 returns-in-Ok-clause-ordered g c h =
-    page_ordered (state g.S.Store c.args.conn.now).now c.args.shape.now c.page_text.result.now c.page_text.ensures (c.requires.known h) (c.page_of.ensures.ordered h)
+    page_ordered (state g.S.Store c.args.conn.now).now c.args.shape.now c.page_text.result.now c.page_text.ensures (c.requires.known h)
+    (c.page_of.ensures.ordered h)
 
 pub returns-in-Err-clause-ordered : goal.returns-in-Err-clause-ordered
 returns-in-Err-clause-ordered g c h =
-    page_ordered (state g.S.Store c.args.conn.now).now c.args.shape.now c.page_text.result.now c.page_text.ensures (c.requires.known h) (c.page_of.ensures.ordered h)
+    page_ordered (state g.S.Store c.args.conn.now).now c.args.shape.now c.page_text.result.now c.page_text.ensures (c.requires.known h)
+    (c.page_of.ensures.ordered h)
 
 pub returns-in-Err-clause-reported : goal.returns-in-Err-clause-reported
 returns-in-Err-clause-reported g c =

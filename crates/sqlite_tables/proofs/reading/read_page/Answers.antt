@@ -14,9 +14,11 @@ returns-clause-adds g c h =
     let joins = rw a at (c.in-Ok.ensures.joins h) in
     let count : c.len.result ≡ length c.in-Ok.page.items = search rules in (
       c.in-Ok.page.items,
-      page_parts l c.args.low (entries_of (state g.S.Store c.args.conn.now).now l) c.in-Ok.page.items c.deref.result.now c.in-Ok-add_page.last c.next_after.result c.len.result joins
+      page_parts l c.args.low (entries_of (state g.S.Store c.args.conn.now).now l) c.in-Ok.page.items c.deref.result.now
+          c.in-Ok-add_page.last c.next_after.result c.len.result joins
           c.deref.ensures.value c.in-Ok-add_page.ensures.last count c.next_after.ensures,
-      subst (λ (rows : List SqlRow). Adds l c.args.column rows c.args.read.now c.add_page.new.read) c.deref.ensures.value c.in-Ok-add_page.ensures.adds,
+      subst (λ (rows : List SqlRow). Adds l c.args.column rows c.args.read.now c.add_page.new.read) c.deref.ensures.value
+          c.in-Ok-add_page.ensures.adds,
     )
 
 pub returns-clause-sure_adds : goal.returns-clause-sure_adds
@@ -26,7 +28,9 @@ returns-clause-sure_adds g c h =
     let joins = rw a at (c.in-Ok.ensures.sure_joins h) in
     let count : c.len.result ≡ length c.in-Ok.page.items = search rules in (
       c.in-Ok.page.items,
-      page_parts l c.args.low (entries_of (state g.S.Store c.args.conn.now).now l) c.in-Ok.page.items c.deref.result.now c.in-Ok-add_page.last c.next_after.result c.len.result joins
+      page_parts l c.args.low (entries_of (state g.S.Store c.args.conn.now).now l) c.in-Ok.page.items c.deref.result.now
+          c.in-Ok-add_page.last c.next_after.result c.len.result joins
           c.deref.ensures.value c.in-Ok-add_page.ensures.last count c.next_after.ensures,
-      subst (λ (rows : List SqlRow). Adds l c.args.column rows c.args.read.now c.add_page.new.read) c.deref.ensures.value c.in-Ok-add_page.ensures.adds,
+      subst (λ (rows : List SqlRow). Adds l c.args.column rows c.args.read.now c.add_page.new.read) c.deref.ensures.value
+          c.in-Ok-add_page.ensures.adds,
     )

@@ -32,7 +32,8 @@ returns-clause-unread g c honest fault bad =
 
 pub returns-clause-ordered : goal.returns-clause-ordered
 returns-clause-ordered g c honest tree shown is =
-    steady_table g.S.Store c.args.conn.now c.args.text.now tree shown (g.met.S.SourceStore.steady honest c.args.conn.now.store) c.schema-schema.ensures.live is
+    steady_table g.S.Store c.args.conn.now c.args.text.now tree shown
+    (g.met.S.SourceStore.steady honest c.args.conn.now.store) c.schema-schema.ensures.live is
 
 pub returns-clause-clean_rows : goal.returns-clause-clean_rows
 returns-clause-clean_rows g c after tree shown is shaped =
@@ -60,4 +61,5 @@ returns-clause-reported g c =
     let b = to_z-of_z w64 c.args.high c.ranges.high in
     let told = rw (a, b) at c.page.ensures.reported in
     reported_if c.page.result (HasCleanDisk (state g.S.Store c.page.new.conn))
-    (FailsToQuery c.args.text.now (Int c.args.low ∷ Int c.args.high ∷ []) (state g.S.Store c.args.conn.now) (state g.S.Store c.page.new.conn)) told
+    (FailsToQuery c.args.text.now (Int c.args.low ∷ Int c.args.high ∷ []) (state g.S.Store c.args.conn.now)
+    (state g.S.Store c.page.new.conn)) told

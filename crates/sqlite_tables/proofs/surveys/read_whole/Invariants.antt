@@ -10,7 +10,8 @@ invariant-loop-next g l = record {
   few : l.count ≤ 1000000;
   idle : l.conn.in_transaction ≡ false;
   same : g.S.SourceStore.honest ≡ true → (state g.S.Store l.conn).now ≡ (state g.S.Store l.initial.conn).now;
-  seen : g.S.SourceStore.honest ≡ true → IsSeen l.shape (entries_of (state g.S.Store l.initial.conn).now l.shape) (Some least) l.next l.count;
+  seen : g.S.SourceStore.honest ≡ true
+      → IsSeen l.shape (entries_of (state g.S.Store l.initial.conn).now l.shape) (Some least) l.next l.count;
   reads : ReadsOnly (state g.S.Store l.initial.conn) (state g.S.Store l.conn) l.shape;
   sure_seen : IsSure (state g.S.Store l.initial.conn) (state g.S.Store l.conn) l.shape
       → IsSeen l.shape (entries_of (state g.S.Store l.initial.conn).now l.shape) (Some least) l.next l.count;

@@ -23,7 +23,8 @@ returns-in-Err-check_rows-clause-refused g c =
       by.0,
       λ h.
           let joins = rw a at (c.in-Ok.ensures.joins h) in
-          page_not l c.args.low (entries_of (state g.S.Store c.args.conn.now).now l) c.in-Ok.page.items c.deref.result.now joins c.deref.ensures.value (c.in-Err-check_rows.ensures.stray by.1),
+          page_not l c.args.low (entries_of (state g.S.Store c.args.conn.now).now l) c.in-Ok.page.items c.deref.result.now joins
+          c.deref.ensures.value (c.in-Err-check_rows.ensures.stray by.1),
     ))
     c.fault_of_content.ensures.refused
 
@@ -33,7 +34,8 @@ returns-clause-seen g c h =
     let a = to_z-of_z w64 c.args.low c.ranges.low in
     let joins = rw a at (c.in-Ok.ensures.joins h) in
     let count : c.len-count.result ≡ length c.in-Ok.page.items = search rules in
-    page_seen l c.args.low (entries_of (state g.S.Store c.args.conn.now).now l) c.in-Ok.page.items c.deref.result.now c.in-Ok-check_rows.last c.next_after.result c.len-count.result joins
+    page_seen l c.args.low (entries_of (state g.S.Store c.args.conn.now).now l) c.in-Ok.page.items c.deref.result.now
+    c.in-Ok-check_rows.last c.next_after.result c.len-count.result joins
     c.deref.ensures.value c.in-Ok-check_rows.ensures.last c.in-Ok-check_rows.ensures.fit count c.next_after.ensures
 
 pub returns-clause-full : goal.returns-clause-full
@@ -49,7 +51,8 @@ returns-in-Err-check_rows-clause-sure_refused g c =
     only_more _ _ c.fault_of_content.result
     (λ cause by h.
     let joins = rw a at (c.in-Ok.ensures.sure_joins h) in
-    page_not l c.args.low (entries_of (state g.S.Store c.args.conn.now).now l) c.in-Ok.page.items c.deref.result.now joins c.deref.ensures.value (c.in-Err-check_rows.ensures.stray by.1))
+    page_not l c.args.low (entries_of (state g.S.Store c.args.conn.now).now l) c.in-Ok.page.items c.deref.result.now joins
+    c.deref.ensures.value (c.in-Err-check_rows.ensures.stray by.1))
     c.fault_of_content.ensures.refused
 
 pub returns-clause-sure_seen : goal.returns-clause-sure_seen
@@ -58,7 +61,8 @@ returns-clause-sure_seen g c h =
     let a = to_z-of_z w64 c.args.low c.ranges.low in
     let joins = rw a at (c.in-Ok.ensures.sure_joins h) in
     let count : c.len-count.result ≡ length c.in-Ok.page.items = search rules in
-    page_seen l c.args.low (entries_of (state g.S.Store c.args.conn.now).now l) c.in-Ok.page.items c.deref.result.now c.in-Ok-check_rows.last c.next_after.result c.len-count.result joins
+    page_seen l c.args.low (entries_of (state g.S.Store c.args.conn.now).now l) c.in-Ok.page.items c.deref.result.now
+    c.in-Ok-check_rows.last c.next_after.result c.len-count.result joins
     c.deref.ensures.value c.in-Ok-check_rows.ensures.last c.in-Ok-check_rows.ensures.fit count c.next_after.ensures
 
 pub returns-in-Err-clause-reported : goal.returns-in-Err-clause-reported
@@ -76,7 +80,9 @@ returns-in-Err-check_rows-clause-reported g c =
     c.in-Err-check_rows.misread c.fault_of_content.result c.in-Err-check_rows.ensures.memory c.fault_of_content.ensures.memory
     c.fault_of_content.ensures.source c.fault_of_content.ensures.refused
     (λ none.
-    let strange = subst (λ (rows : List SqlRow). list_all (is_row l) rows ≡ false) c.deref.ensures.value (c.in-Err-check_rows.ensures.no_row none) in (
-      λ h. not_paged l c.args.low greatest entries c.in-Ok.page.items (c.page_between.ensures.ordered h) (rw a at (c.in-Ok.ensures.rows h)) strange,
+    let strange = subst (λ (rows : List SqlRow). list_all (is_row l) rows ≡ false) c.deref.ensures.value
+    (c.in-Err-check_rows.ensures.no_row none) in (
+      λ h. not_paged l c.args.low greatest entries c.in-Ok.page.items (c.page_between.ensures.ordered h)
+          (rw a at (c.in-Ok.ensures.rows h)) strange,
       λ h. not_paged l c.args.low greatest entries c.in-Ok.page.items h.ordered (rw a at (c.in-Ok.ensures.sure_rows h)) strange,
     ))
