@@ -55,7 +55,8 @@ fn rows_there<S: SourceStore>(
     match find_table(conn, shape) {
         Ok(()) => {}
         Err(Fault::NoMemory) => return Err(Fault::NoMemory),
-        Err(_) => return Err(Fault::Source),
+        Err(Fault::Source) => return Err(Fault::Source),
+        Err(Fault::Refused(_)) => return Err(Fault::Source),
     }
     match held {
         Some(count) => Ok(count),

@@ -1,9 +1,9 @@
-use Rattle.std.proofs.Common.{◌≡◌, ◌≢◌, ℕ, Option, None, IfOk, IfSome, length, subst}
+use Rattle.std.proofs.Common.{◌∙◌, sym, ◌≡◌, ◌≢◌, ℕ, Option, None, IfOk, IfSome, length, subst}
 use Rattle.sqlite.specs.Held.{state}
 use Rattle.sqlite.specs.Effect.{Database}
 use Rattle.sqlite_tables.specs.Prelude.{rows_of, tree_found}
 use Rattle.sqlite_tables.proofs.Settled.{known_after, reads_then, sure_first, sure_then, sure_same}
-use Rattle.sqlite_wrapper.proofs.Failures.{counts_or_fails}
+use Rattle.sqlite_wrapper.proofs.Failures.{counts_or_fails, find_memory, find_source}
 use Rattle.sqlite_wrapper.proofs.Sure.{on_ok}
 use Rattle.sqlite_wrapper.proofs.writing.rows_there.Goals as goal
 
@@ -36,3 +36,20 @@ pub returns-in-None-clause-reported : goal.returns-in-None-clause-reported
 returns-in-None-clause-reported g c =
     counts_or_fails g.S.Store g.S.SourceStore.honest c.args.shape.now c.args.conn.now c.count_rows.new.conn c.count_rows.result (state g.S.Store c.find_table.new.conn)
     c.find_table.ensures.reads c.count_rows.ensures.reads c.find_table.ensures.same c.count_rows.ensures.reported
+
+pub returns-in-Err-NoMemory-clause-reported : goal.returns-in-Err-NoMemory-clause-reported
+returns-in-Err-NoMemory-clause-reported g c =
+    let e = c.in-Err-NoMemory in
+    find_memory g.S.Store g.S.SourceStore.honest c.args.shape.now c.args.conn.now c.find_table.new.conn e.field-0 e.field-0-is e.ensures.reported
+
+pub returns-in-Err-Source-clause-reported : goal.returns-in-Err-Source-clause-reported
+returns-in-Err-Source-clause-reported g c =
+    let e = c.in-Err-Source in
+    find_source g.S.Store g.S.SourceStore.honest c.args.shape.now c.args.conn.now c.find_table.new.conn
+    e.field-0 (λ is. let other = sym is ∙ e.field-0-is in cc) e.ensures.reported e.ensures.refused e.ensures.sure_refused
+
+pub returns-in-Err-Refused-clause-reported : goal.returns-in-Err-Refused-clause-reported
+returns-in-Err-Refused-clause-reported g c =
+    let e = c.in-Err-Refused in
+    find_source g.S.Store g.S.SourceStore.honest c.args.shape.now c.args.conn.now c.find_table.new.conn
+    e.field-0 (λ is. let other = sym is ∙ e.field-0-is in cc) e.ensures.reported e.ensures.refused e.ensures.sure_refused
