@@ -1,5 +1,29 @@
 -- Why a write fails, from what its calls say of their failures.
-use Rattle.std.proofs.Common.{◌≡◌, ◌≢◌, ◌∙◌, ◌⊎◌, inl, inr, ℤ, pos, Bool, true, List, None, Option, Some, IfSome, option_map, Result, Ok, Err, IfErr, refl, sym, subst}
+use Rattle.std.proofs.Common.{
+  ◌≡◌,
+  ◌≢◌,
+  ◌∙◌,
+  ◌⊎◌,
+  inl,
+  inr,
+  ℤ,
+  pos,
+  Bool,
+  true,
+  List,
+  None,
+  Option,
+  Some,
+  IfSome,
+  option_map,
+  Result,
+  Ok,
+  Err,
+  IfErr,
+  refl,
+  sym,
+  subst,
+}
 use Rattle.sqlite.specs.Effect.{Database}
 use Rattle.sqlite.specs.Held.{Held, state}
 use Rattle.sqlite.specs.State.{State}
@@ -9,7 +33,19 @@ use Rattle.med_value.specs.declared.cause.Cause.{Cause}
 use Rattle.med_value.specs.declared.cause.Cause.TheVariants.{TableNotFound}
 use Rattle.fdw_api.specs.declared.interface.Fault.{Fault}
 use Rattle.fdw_api.specs.declared.interface.Fault.TheVariants.{NoMemory, Source, Refused}
-use Rattle.sqlite_tables.specs.Prelude.{FailsToCount, IsCleanAfter, IsKnown, IsReportedPage, IsSure, IsUnfit, Layout, OnlyBy, ReadsOnly, entries_of, tree_found}
+use Rattle.sqlite_tables.specs.Prelude.{
+  FailsToCount,
+  IsCleanAfter,
+  IsKnown,
+  IsReportedPage,
+  IsSure,
+  IsUnfit,
+  Layout,
+  OnlyBy,
+  ReadsOnly,
+  entries_of,
+  tree_found,
+}
 use Rattle.sqlite_tables.proofs.Settled.{reads_none, reads_then, sure_same, sure_then}
 use Rattle.sqlite_writes.specs.Failing.{FailsToRewrite}
 use Rattle.sqlite_wrapper.specs.Failing.{FailsToFind}
@@ -19,7 +55,8 @@ module _ {S : Type 0} (g : Ghosts S) (honest : Bool) (l : Layout) (old new : Hel
   abbrev Finds : Fault → Type 0
   Finds f = (f ≡ Refused TableNotFound) ⊎ IsReportedPage l (pos 1) (pos 0) (state g old) (state g new) f
 
-  at_page : (f : Fault) → IsReportedPage l (pos 1) (pos 0) (state g old) (state g new) f → FailsToFind g honest l (state g old) (state g new) f
+  at_page : (f : Fault) → IsReportedPage l (pos 1) (pos 0) (state g old) (state g new) f
+      → FailsToFind g honest l (state g old) (state g new) f
   at_page f h = inl (inl (old, pos 1, pos 0, reads_none (state g old) l, h))
 
   -- a table is not found, out of memory
@@ -38,7 +75,8 @@ module _ {S : Type 0} (g : Ghosts S) (honest : Bool) (l : Layout) (old new : Hel
   find_source (Refused c) not h by sure = inr (refl, by.1, λ k. sure k.after k.known)
 
   -- its rows are not counted, after it was found
-  pub count_fails : (mid : State) (f : Fault) → ReadsOnly (state g old) mid l → ReadsOnly mid (state g new) l → (honest ≡ true → mid.now ≡ (state g old).now)
+  pub count_fails : (mid : State) (f : Fault) → ReadsOnly (state g old) mid l → ReadsOnly mid (state g new) l
+      → (honest ≡ true → mid.now ≡ (state g old).now)
       → FailsToCount g honest l mid (state g new) f → FailsToFind g honest l (state g old) (state g new) f
   count_fails mid f first next same (inl h) = inl (inl (h.0, h.1, h.2, reads_then first h.3, h.4))
   count_fails mid f first next same (inr h) = inl (inr (
@@ -55,7 +93,8 @@ module _ {S : Type 0} (g : Ghosts S) (honest : Bool) (l : Layout) (old new : Hel
   counts_or_fails (Err f) mid first next same h = count_fails mid f first next same h
 
 -- a rewrite of the same keys and rows fails as it does
-pub rewrite_same : {S : Type 0} (g : Ghosts S) (l : Layout) (old new : State) (fault : Fault) (a b : List ℤ) (c d : List Tuple) → a ≡ b → c ≡ d
+pub rewrite_same : {S : Type 0} (g : Ghosts S) (l : Layout) (old new : State) (fault : Fault) (a b : List ℤ) (c d : List Tuple) → a ≡ b
+    → c ≡ d
     → FailsToRewrite g l a c old new fault → FailsToRewrite g l b d old new fault
 rewrite_same g l old new fault a b c d e f h =
     subst (λ (gone : List ℤ). FailsToRewrite g l gone d old new fault) e

@@ -44,13 +44,14 @@ key_then l first r h =
     ap (λ (cs : List PageColumn). cells_at cs (paged (places l) r)) first.1
     ∙ ap (λ (d : Datum). d ∷ cells_at first.0 (paged (places l) r)) (key_value (rowid r) h)
 
-pub key_cell : (l : Layout) (first : HasKeyFirst l) (r : SqlRow) → IsTrue (is_int (rowid r)) → cell (page_cells l (paged (places l) r)) 0 ≡ Whole (key_of r)
+pub key_cell : (l : Layout) (first : HasKeyFirst l) (r : SqlRow) → IsTrue (is_int (rowid r))
+    → cell (page_cells l (paged (places l) r)) 0 ≡ Whole (key_of r)
 key_cell l first r h = ap (λ (cells : Tuple). cell cells 0) (key_then l first r h)
 
 greater_than : (m n : ℤ) → m <ℤ n → is_lt (int_cmp n m) ≡ false
 greater_than m n less = grind (arith, ints)
 
--- a greater key does not stand before a lower one, ascending
+-- in ascending order a greater key does not come before a lower one
 pub keys_rise : (descending nulls_first : Bool) (x y : Datum) (m n : ℤ) → descending ≡ false → x ≡ Whole n → y ≡ Whole m → m <ℤ n
     → is_lt (key_cmp descending nulls_first x y) ≡ false
 keys_rise descending nulls_first x y m n up x_is y_is less = rw (up, x_is, y_is) (greater_than m n less)

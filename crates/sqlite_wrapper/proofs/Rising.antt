@@ -1,5 +1,36 @@
--- The rows of a table stand in the order of their keys, and the first so many of them come.
-use Rattle.std.proofs.Common.{◌≡◌, ℕ, ℤ, ◌+◌, ◌-◌, ◌<ℤ◌, Bool, true, false, not, nat_eq, List, [], ◌∷◌, map, filter, take, Option, Some, None, option_map, zero, suc, IsTrue, IsSorted, refl, ap, sym, ◌∙◌, arith}
+-- The rows of a table are in the order of their keys, and the first n of them come.
+use Rattle.std.proofs.Common.{
+  ◌≡◌,
+  ℕ,
+  ℤ,
+  ◌+◌,
+  ◌-◌,
+  ◌<ℤ◌,
+  Bool,
+  true,
+  false,
+  not,
+  nat_eq,
+  List,
+  [],
+  ◌∷◌,
+  map,
+  filter,
+  take,
+  Option,
+  Some,
+  None,
+  option_map,
+  zero,
+  suc,
+  IsTrue,
+  IsSorted,
+  refl,
+  ap,
+  sym,
+  ◌∙◌,
+  arith,
+}
 use Rattle.std.proofs.lemmas.Int.{ints}
 use Rattle.std.specs.declared.cmp.Ordering.{Ordering}
 use Rattle.std.specs.declared.cmp.Ordering.TheVariants.{Less, Equal, Greater}
@@ -20,9 +51,9 @@ use Rattle.sqlite_wrapper.specs.Boxes.{is_by_key}
 use Rattle.sqlite_wrapper.proofs.Keys.{HasKeyFirst, key_cell, keys_rise}
 use Rattle.sqlite_wrapper.specs.Pages.{is_spent}
 
--- ---- the first so many
+-- ---- the first n
 
--- of what is shown they are the first so many, shown
+-- the first n of what is shown are the first n, shown
 pub first_map : {X Y : Type 0} (f : X → Y) (limit : Option ℕ) (xs : List X) → first_of limit (map f xs) ≡ map f (first_of limit xs)
 first_map {X} {Y} f None xs = refl
 first_map {X} {Y} f (Some n) xs = taken n xs
@@ -44,8 +75,9 @@ first_spent None xs e = absurd cc
 first_spent (Some zero) xs e = refl
 first_spent (Some (suc n)) xs e = absurd (grind arith)
 
--- where one more may come the first does, and behind it one less may
-pub first_more : {X : Type 0} (room : Option ℕ) (x : X) (xs : List X) → is_spent room ≡ false → first_of room (x ∷ xs) ≡ x ∷ first_of (option_map (λ n. n - 1) room) xs
+-- where one more may come the first does, and after it one less may
+pub first_more : {X : Type 0} (room : Option ℕ) (x : X) (xs : List X) → is_spent room ≡ false
+    → first_of room (x ∷ xs) ≡ x ∷ first_of (option_map (λ n. n - 1) room) xs
 first_more None x xs e = refl
 first_more (Some zero) x xs e = absurd cc
 first_more {X} (Some (suc n)) x xs e = let less : suc n - 1 ≡ n = omega arith in ap (λ (k : ℕ). x ∷ take k xs) (sym less)
@@ -65,7 +97,7 @@ or_equal Greater e = refl
 abbrev cell_in : Layout → SqlRow → ℕ → Datum
 cell_in l r n = cell (page_cells l (paged (places l) r)) n
 
--- a row of a greater key does not stand before one of a lower key
+-- a row of a greater key does not come before one of a lower key
 behind : (l : Layout) → HasKeyFirst l → (order : List KeyForm) → is_by_key order ≡ true → (a b : SqlRow)
     → IsTrue (is_int (rowid a)) → IsTrue (is_int (rowid b)) → key_of a <ℤ key_of b
     → is_lt (row_cmp order (row_in l (paged (places l) b)) (row_in l (paged (places l) a))) ≡ false
@@ -82,7 +114,8 @@ module _ (l : Layout) (first : HasKeyFirst l) (order : List KeyForm) (by : is_by
   abbrev NotBefore : TableRow → TableRow → Type 0
   NotBefore x y = is_lt (row_cmp order y x) ≡ false
 
-  all_behind : (e : SqlRow) (es : List SqlRow) → IsTrue (is_int (rowid e)) → AllByRecursion (λ x. value_cmp (rowid e) (rowid x) ≡ Less) es → Ints es
+  all_behind : (e : SqlRow) (es : List SqlRow) → IsTrue (is_int (rowid e)) → AllByRecursion (λ x. value_cmp (rowid e) (rowid x) ≡ Less) es
+      → Ints es
       → AllByRecursion (NotBefore (row_in l (paged (places l) e))) (map (row_in l) (map (paged (places l)) es))
   all_behind e [] h up ints_are = tt
   all_behind e (x ∷ es) h up ints_are = (
@@ -94,10 +127,11 @@ module _ (l : Layout) (first : HasKeyFirst l) (order : List KeyForm) (by : is_by
   rise [] up ints_are = tt
   rise (e ∷ es) up ints_are = (all_behind e es ints_are.0 up.0 ints_are.1, rise es up.1 ints_are.1)
 
-  -- the rows of a key range stand in the order
+  -- the rows of a key range are in the order
   pub rows_rise : (low high : ℤ) (entries : List SqlRow) → IsShaped shape.Table entries
       → IsSorted (row_cmp order) (map (row_in l) (range_of (places l) low high entries))
   rows_rise low high entries shaped k d from within =
       ascending-get_or NotBefore (map (row_in l) (range_of (places l) low high entries)) k (k + 1) d
-      (rise (filter (in_range low high) entries) (ascending-filter _ (in_range low high) entries shaped.0) (all-filter (λ r. IsTrue (is_int (rowid r))) (in_range low high) entries shaped.1))
+      (rise (filter (in_range low high) entries) (ascending-filter _ (in_range low high) entries shaped.0)
+      (all-filter (λ r. IsTrue (is_int (rowid r))) (in_range low high) entries shaped.1))
       (omega arith) within

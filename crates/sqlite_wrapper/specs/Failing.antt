@@ -33,7 +33,8 @@ FailsAfterCount {S} g l changes old new fault =
 abbrev pub FailsToLook : Watch → Watch → Fault → Type 0
 FailsToLook before after fault = not_refused fault × Looks before after false
 
--- why a write of these changes is not made. Before the database is used: memory was refused, a new row has no key, or the look failed. Then:
+-- why a write of these changes is not made. Before the database is used: memory was refused, a new row has no key, or the look failed.
+-- Then:
 -- the rows are not counted, they would be too many, or the rewrite fails
 abbrev pub FailsToWrite : {S : Type 0} → Ghosts S → Bool → Layout → List Change → Watch → Watch → Held S → Held S → Fault → Type 0
 FailsToWrite g honest l changes before after old new fault =

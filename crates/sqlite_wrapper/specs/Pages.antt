@@ -1,5 +1,37 @@
--- Which page a scan asks for, and how it stands behind a row.
-use Rattle.std.specs.Prelude.{◌≡◌, ◌⊎◌, ◌-◌, ◌<◌, ◌≤ℤ◌, ℕ, List, [], ◌∷◌, drop, ℤ, pos, ◌+ℤ◌, ◌+◌, Bool, true, false, not, ◌||◌, length, Option, Some, None, option_map, nat_eq, if◌then◌else◌, nat_lt, int_lt, int_le, ◌&&◌, slice_get}
+-- Which page a scan asks for, and what it is after a row.
+use Rattle.std.specs.Prelude.{
+  ◌≡◌,
+  ◌⊎◌,
+  ◌-◌,
+  ◌<◌,
+  ◌≤ℤ◌,
+  ℕ,
+  List,
+  [],
+  ◌∷◌,
+  drop,
+  ℤ,
+  pos,
+  ◌+ℤ◌,
+  ◌+◌,
+  Bool,
+  true,
+  false,
+  not,
+  ◌||◌,
+  length,
+  Option,
+  Some,
+  None,
+  option_map,
+  nat_eq,
+  if◌then◌else◌,
+  nat_lt,
+  int_lt,
+  int_le,
+  ◌&&◌,
+  slice_get,
+}
 use Rattle.sqlite.specs.Order.{Row as SqlRow}
 use Rattle.med_value.specs.Datum.{tuple}
 use Rattle.fdw_api.specs.Prelude.{spec_of, shown_fits, row_fits, row_of}
@@ -20,7 +52,7 @@ wanted_by s =
     if is_spent s.room || (nat_lt s.at (length s.page.items) || (not s.full || not s.open)) then None
     else Some (record { table = s.table; low = s.low; high = s.high })
 
--- behind a row of this key; nothing may come behind the greatest
+-- after a row of this key; nothing may come after the greatest
 abbrev pub passed : KeyScan → ℤ → KeyScan
 passed s key =
     if int_lt key s.high then record s { at = s.at + 1; room = option_map (λ n. n - 1) s.room; low = key +ℤ pos 1 }

@@ -1,10 +1,38 @@
 //! Writes to the tables of a database, whole or not at all.
-ghost use Rattle.std.specs.Prelude.{◌≡◌, ◌≢◌, ◌≤◌, ◌⊎◌, true, false, None, map, nat_lt, length, IfOk, IfErr, IfSome, OnOk, OnErr, Contains};
+ghost use Rattle.std.specs.Prelude.{
+  ◌≡◌,
+  ◌≢◌,
+  ◌≤◌,
+  ◌⊎◌,
+  true,
+  false,
+  None,
+  map,
+  nat_lt,
+  length,
+  IfOk,
+  IfErr,
+  IfSome,
+  OnOk,
+  OnErr,
+  Contains,
+};
 ghost use Rattle.std.specs.List.{list_all};
 ghost use Rattle.sqlite.specs.Held.{state};
 ghost use Rattle.med_value.specs.Prelude.{phase_of, row_limit};
 ghost use Rattle.fdw_api.specs.Prelude.{not_refused, is_of_run, row_of_change_fits, id_is_there};
-ghost use Rattle.sqlite_tables.specs.Prelude.{kinds_in, layout_at, layout_count, layouts, OnlyBy, IsKnown, IsSure, ReadsOnly, rows_of, tree_found};
+ghost use Rattle.sqlite_tables.specs.Prelude.{
+  kinds_in,
+  layout_at,
+  layout_count,
+  layouts,
+  OnlyBy,
+  IsKnown,
+  IsSure,
+  ReadsOnly,
+  rows_of,
+  tree_found,
+};
 ghost use Rattle.sqlite_writes.specs.Kinds.{write_causes};
 ghost use Rattle.sqlite_writes.specs.Watched.{Looks};
 ghost use Rattle.sqlite_writes.specs.Splitting.{IsNamedOnce};
@@ -64,8 +92,8 @@ fn rows_there<S: SourceStore>(
     }
 }
 
-// Makes the changes of a write to a table, whole or not at all, as one transaction, and returns how many rows it has then. What is held of
-// its number of rows before is taken for it, where it leaves room for the write.
+// Makes the changes of a write to a table, whole or not at all, as one transaction, and returns how many rows it has then. What is held
+// of its number of rows before is taken for it, where it leaves room for the write.
 //
 // Refused by 23502 where a new row has no key, by 54000 where more than 1,000,000 rows would be left, and by 23505 where two would have
 // one key; then the rows are as they were. It fails, and does not use the connection, where the files of the database are not those that
@@ -136,8 +164,8 @@ fn write_shape<S: SourceStore>(
     }
 }
 
-/// Makes the changes of a write to a table, whole or not at all, as one transaction, and returns how many rows it has then. What is held of
-/// its number of rows before is taken for it, where it leaves room for the write.
+/// Makes the changes of a write to a table, whole or not at all, as one transaction, and returns how many rows it has then. What is held
+/// of its number of rows before is taken for it, where it leaves room for the write.
 ///
 /// Refused by 23502 where a new row has no key, by 54000 where more than 1,000,000 rows would be left, and by 23505 where two would have
 /// one key; then the rows are as they were. It fails, and does not use the connection, where the files of the database are not those that
@@ -172,7 +200,8 @@ pub(crate) fn write_rows<S: SourceStore>(
         → Contains (write_causes (rows_of (state S.Store conn.old).now (layout_at table)) (map change_is changes.items)) c))) }
     ensures same { S.honest ≡ true → OnErr result ((state S.Store conn.new).now ≡ (state S.Store conn.old).now) }
     ensures sure_made { IsSureChange (state S.Store conn.old) (state S.Store conn.new) (layout_at table) held (map change_is changes.items)
-        → OnOk result (Rewrites (state S.Store conn.old).now (state S.Store conn.new).now (layout_at table) (map change_is changes.items)) }
+        → OnOk result (Rewrites (state S.Store conn.old).now (state S.Store conn.new).now (layout_at table)
+        (map change_is changes.items)) }
     ensures sure_refused { IfErr result (OnlyBy (λ c.
         IsSureChange (state S.Store conn.old) (state S.Store conn.new) (layout_at table) held (map change_is changes.items)
         → Contains (write_causes (rows_of (state S.Store conn.old).now (layout_at table)) (map change_is changes.items)) c)) }

@@ -48,7 +48,8 @@ returns-then-count-fresh-clause-refused g c = (
         holdable = c.in-Ok.ensures.holdable;
       } in
       too_many db t changes c.in-Ok-rows_there.count c.len-fresh.result c.len-gone.result (c.in-Ok-rows_there.ensures.count h)
-      (c.len-fresh.ensures ∙ (search rules) ∙ sym (length-map c.in-Ok.split.fresh.items tuple) ∙ ap length c.in-Ok.ensures.fresh) (c.len-gone.ensures ∙ (search rules) ∙ ap length c.in-Ok.ensures.gone)
+      (c.len-fresh.ensures ∙ (search rules) ∙ sym (length-map c.in-Ok.split.fresh.items tuple) ∙ ap length c.in-Ok.ensures.fresh)
+      (c.len-gone.ensures ∙ (search rules) ∙ ap length c.in-Ok.ensures.gone)
       (c.changes_are_a_rewrite.ensures.count t (entries_of db t) changes are) c.if-count-fresh.true,
 )
 
@@ -62,15 +63,16 @@ returns-clause-refused g c =
       subst (λ (d : Cause). is_of_run (phase_of d) ≡ true) (sym by.0) refl,
       λ h.
           let are : AreChanges t (entries_of db t) changes = record {
-        written = written_of c.args.conn.now.schema t (c.requires.writable h);
-        ordered = c.entries_rise.ensures h;
+            written = written_of c.args.conn.now.schema t (c.requires.writable h);
+            ordered = c.entries_rise.ensures h;
             once = c.requires.once;
             there = c.requires.there h;
             placed = c.in-Ok.ensures.each_placed;
             holdable = c.in-Ok.ensures.holdable;
           } in
           rw by.0 (repeated db t changes (c.changes_are_a_rewrite.ensures.repeats t (entries_of db t) changes are)
-          (sym (three (repeats_key t) _ _ _ _ _ _ (c.deref.ensures.value ∙ c.in-Ok.ensures.gone) (ap (map tuple) c.deref-2.ensures.value ∙ c.in-Ok.ensures.fresh)
+          (sym (three (repeats_key t) _ _ _ _ _ _ (c.deref.ensures.value ∙ c.in-Ok.ensures.gone)
+          (ap (map tuple) c.deref-2.ensures.value ∙ c.in-Ok.ensures.fresh)
           (ap (λ (d : Database). entries_of d t) (c.rows_there.ensures.same h))) ∙ by.1 h)),
     ))
     c.in-Err-rewrite.ensures.refused
@@ -99,10 +101,13 @@ made g c h =
     let repeats_law = law.repeats t (entries_of db t) changes are in
     let is_free = sym (three (repeats_key t) _ _ _ _ _ _ gone fresh es) ∙ c.in-Ok-rewrite.ensures.free h in
     rewrites db t changes new c.in-Ok-rows_there.count c.len-fresh.result c.len-gone.result schema (c.in-Ok-rows_there.ensures.there h)
-    (c.in-Ok-rewrite.ensures.rows h ∙ three (rewritten t) _ _ _ _ _ _ gone fresh es) (subst (λ (d : Database). KeepsTables d new t) same (c.in-Ok-rewrite.ensures.others h)) c.in-Ok.ensures.keyed is_free
+    (c.in-Ok-rewrite.ensures.rows h ∙ three (rewritten t) _ _ _ _ _ _ gone fresh es)
+    (subst (λ (d : Database). KeepsTables d new t) same (c.in-Ok-rewrite.ensures.others h)) c.in-Ok.ensures.keyed is_free
     (c.in-Ok-rows_there.ensures.count h)
-    (c.len-fresh.ensures ∙ (search rules) ∙ sym (length-map c.in-Ok.split.fresh.items tuple) ∙ ap length c.in-Ok.ensures.fresh) (c.len-gone.ensures ∙ (search rules) ∙ ap length c.in-Ok.ensures.gone)
-    c.if-count-fresh.false (law.count t (entries_of db t) changes are) repeats_law (law.rows t (entries_of db t) changes are is_free) (law.once t (entries_of db t) changes are)
+    (c.len-fresh.ensures ∙ (search rules) ∙ sym (length-map c.in-Ok.split.fresh.items tuple) ∙ ap length c.in-Ok.ensures.fresh)
+    (c.len-gone.ensures ∙ (search rules) ∙ ap length c.in-Ok.ensures.gone)
+    c.if-count-fresh.false (law.count t (entries_of db t) changes are) repeats_law (law.rows t (entries_of db t) changes are is_free)
+    (law.once t (entries_of db t) changes are)
 
 pub returns-in-Ok-rewrite-clause-made : goal.returns-in-Ok-rewrite-clause-made
 returns-in-Ok-rewrite-clause-made g c h = made g c h
@@ -120,9 +125,11 @@ returns-in-Ok-rewrite-clause-count g c h =
       placed = c.in-Ok.ensures.each_placed;
       holdable = c.in-Ok.ensures.holdable;
     } in
-    rows_left db t changes (state g.S.Store c.rewrite.new.conn).now c.in-Ok-rows_there.count c.len-fresh.result c.len-gone.result _ (made g c h)
+    rows_left db t changes (state g.S.Store c.rewrite.new.conn).now c.in-Ok-rows_there.count c.len-fresh.result c.len-gone.result _
+    (made g c h)
     (c.in-Ok-rows_there.ensures.count h)
-    (c.len-fresh.ensures ∙ (search rules) ∙ sym (length-map c.in-Ok.split.fresh.items tuple) ∙ ap length c.in-Ok.ensures.fresh) (c.len-gone.ensures ∙ (search rules) ∙ ap length c.in-Ok.ensures.gone)
+    (c.len-fresh.ensures ∙ (search rules) ∙ sym (length-map c.in-Ok.split.fresh.items tuple) ∙ ap length c.in-Ok.ensures.fresh)
+    (c.len-gone.ensures ∙ (search rules) ∙ ap length c.in-Ok.ensures.gone)
     (omega arith) (c.changes_are_a_rewrite.ensures.count t (entries_of db t) changes are)
 
 pub returns-in-Err-clause-sure_refused : goal.returns-in-Err-clause-sure_refused
@@ -144,9 +151,11 @@ returns-then-count-fresh-clause-sure_refused g c h =
       placed = c.in-Ok.ensures.each_placed;
       holdable = c.in-Ok.ensures.holdable;
     } in
-    let count = c.in-Ok-rows_there.ensures.sure_count (write_read h.sure) (held_then (λ n. n ≡ length (rows_of db t)) _ _ c.with_room-held.ensures h.count) in
+    let count = c.in-Ok-rows_there.ensures.sure_count (write_read h.sure)
+    (held_then (λ n. n ≡ length (rows_of db t)) _ _ c.with_room-held.ensures h.count) in
     too_many db t changes c.in-Ok-rows_there.count c.len-fresh.result c.len-gone.result count
-    (c.len-fresh.ensures ∙ (search rules) ∙ sym (length-map c.in-Ok.split.fresh.items tuple) ∙ ap length c.in-Ok.ensures.fresh) (c.len-gone.ensures ∙ (search rules) ∙ ap length c.in-Ok.ensures.gone)
+    (c.len-fresh.ensures ∙ (search rules) ∙ sym (length-map c.in-Ok.split.fresh.items tuple) ∙ ap length c.in-Ok.ensures.fresh)
+    (c.len-gone.ensures ∙ (search rules) ∙ ap length c.in-Ok.ensures.gone)
     (c.changes_are_a_rewrite.ensures.count t (entries_of db t) changes are) c.if-count-fresh.true
 
 pub returns-then-count-fresh-clause-sure_same : goal.returns-then-count-fresh-clause-sure_same
@@ -179,7 +188,8 @@ returns-clause-sure_refused g c =
       holdable = c.in-Ok.ensures.holdable;
     } in
     rw by.0 (repeated db t changes (c.changes_are_a_rewrite.ensures.repeats t (entries_of db t) changes are)
-    (sym (three (repeats_key t) _ _ _ _ _ _ (c.deref.ensures.value ∙ c.in-Ok.ensures.gone) (ap (map tuple) c.deref-2.ensures.value ∙ c.in-Ok.ensures.fresh)
+    (sym (three (repeats_key t) _ _ _ _ _ _ (c.deref.ensures.value ∙ c.in-Ok.ensures.gone)
+    (ap (map tuple) c.deref-2.ensures.value ∙ c.in-Ok.ensures.fresh)
     (ap (λ (d : Database). entries_of d t) same)) ∙ repeats (write_then same h.sure))))
     c.in-Err-rewrite.ensures.refused c.in-Err-rewrite.ensures.sure_refused
 
@@ -207,12 +217,17 @@ returns-in-Ok-rewrite-clause-sure_made g c h =
     let schema : new.schema ≡ db.schema = c.in-Ok-rewrite.ensures.sure_schema next ∙ ap (λ (d : Database). d.schema) same in
     let repeats_law = law.repeats t (entries_of db t) changes are in
     let is_free = sym (three (repeats_key t) _ _ _ _ _ _ gone fresh es) ∙ c.in-Ok-rewrite.ensures.sure_free next in
-    let count = c.in-Ok-rows_there.ensures.sure_count sure (held_then (λ n. n ≡ length (rows_of db t)) _ _ c.with_room-held.ensures h.count) in
-    rewrites db t changes new c.in-Ok-rows_there.count c.len-fresh.result c.len-gone.result schema (c.in-Ok-rows_there.ensures.sure_there sure)
-    (c.in-Ok-rewrite.ensures.sure_rows next ∙ three (rewritten t) _ _ _ _ _ _ gone fresh es) (subst (λ (d : Database). KeepsTables d new t) same (c.in-Ok-rewrite.ensures.sure_others next)) c.in-Ok.ensures.keyed is_free
+    let count = c.in-Ok-rows_there.ensures.sure_count sure (held_then (λ n. n ≡ length (rows_of db t)) _ _ c.with_room-held.ensures
+    h.count) in
+    rewrites db t changes new c.in-Ok-rows_there.count c.len-fresh.result c.len-gone.result schema
+    (c.in-Ok-rows_there.ensures.sure_there sure)
+    (c.in-Ok-rewrite.ensures.sure_rows next ∙ three (rewritten t) _ _ _ _ _ _ gone fresh es)
+    (subst (λ (d : Database). KeepsTables d new t) same (c.in-Ok-rewrite.ensures.sure_others next)) c.in-Ok.ensures.keyed is_free
     count
-    (c.len-fresh.ensures ∙ (search rules) ∙ sym (length-map c.in-Ok.split.fresh.items tuple) ∙ ap length c.in-Ok.ensures.fresh) (c.len-gone.ensures ∙ (search rules) ∙ ap length c.in-Ok.ensures.gone)
-    c.if-count-fresh.false (law.count t (entries_of db t) changes are) repeats_law (law.rows t (entries_of db t) changes are is_free) (law.once t (entries_of db t) changes are)
+    (c.len-fresh.ensures ∙ (search rules) ∙ sym (length-map c.in-Ok.split.fresh.items tuple) ∙ ap length c.in-Ok.ensures.fresh)
+    (c.len-gone.ensures ∙ (search rules) ∙ ap length c.in-Ok.ensures.gone)
+    c.if-count-fresh.false (law.count t (entries_of db t) changes are) repeats_law (law.rows t (entries_of db t) changes are is_free)
+    (law.once t (entries_of db t) changes are)
 
 pub returns-in-Err-clause-reported : goal.returns-in-Err-clause-reported
 returns-in-Err-clause-reported g c h = inl (refl, inl c.in-Err.ensures.refused)
@@ -237,9 +252,10 @@ returns-clause-reported g c h =
     inr (inr (inr (
       c.rows_there.new.conn,
       record { reads = c.rows_there.ensures.reads; same = c.rows_there.ensures.same h; was_clean = c.rewrite.ensures.was_clean },
-      rewrite_same g.S.Store c.args.shape.now (state g.S.Store c.rows_there.new.conn) (state g.S.Store c.rewrite.new.conn) c.in-Err-rewrite.fault _ _ _ _
-      (c.deref.ensures.value ∙ c.in-Ok.ensures.gone) (ap (map tuple) c.deref-2.ensures.value ∙ c.in-Ok.ensures.fresh)
-      (c.in-Err-rewrite.ensures.reported h),
+      rewrite_same g.S.Store c.args.shape.now (state g.S.Store c.rows_there.new.conn) (state g.S.Store c.rewrite.new.conn)
+          c.in-Err-rewrite.fault _ _ _ _
+          (c.deref.ensures.value ∙ c.in-Ok.ensures.gone) (ap (map tuple) c.deref-2.ensures.value ∙ c.in-Ok.ensures.fresh)
+          (c.in-Err-rewrite.ensures.reported h),
     )))
 
 pub returns-clause-sure_reported : goal.returns-clause-sure_reported
@@ -249,7 +265,8 @@ returns-clause-sure_reported g c h =
     inr (inr (inr (
       c.rows_there.new.conn,
       record { reads = c.rows_there.ensures.reads; same = same; was_clean = c.rewrite.ensures.was_clean },
-      rewrite_same g.S.Store c.args.shape.now (state g.S.Store c.rows_there.new.conn) (state g.S.Store c.rewrite.new.conn) c.in-Err-rewrite.fault _ _ _ _
-      (c.deref.ensures.value ∙ c.in-Ok.ensures.gone) (ap (map tuple) c.deref-2.ensures.value ∙ c.in-Ok.ensures.fresh)
-      (c.in-Err-rewrite.ensures.sure_reported (write_then same h)),
+      rewrite_same g.S.Store c.args.shape.now (state g.S.Store c.rows_there.new.conn) (state g.S.Store c.rewrite.new.conn)
+          c.in-Err-rewrite.fault _ _ _ _
+          (c.deref.ensures.value ∙ c.in-Ok.ensures.gone) (ap (map tuple) c.deref-2.ensures.value ∙ c.in-Ok.ensures.fresh)
+          (c.in-Err-rewrite.ensures.sure_reported (write_then same h)),
     )))
