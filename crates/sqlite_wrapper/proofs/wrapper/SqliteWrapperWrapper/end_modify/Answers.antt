@@ -1,7 +1,7 @@
 use Rattle.std.proofs.Common.{◌≡◌, ◌∙◌, Bool, true, Option, None, Some, IsTrue, option_map, map, refl, sym, ap, subst}
 use Rattle.sqlite.specs.Held.{state}
 use Rattle.sqlite.specs.Schema.{Schema}
-use Rattle.fdw_api.specs.Prelude.{faults_after, CanClose, Closes, RefusesClose}
+use Rattle.fdw_api.specs.Prelude.{faults_after, CanClose, Closes, RefusesClose, Staging}
 use Rattle.std.proofs.Math.Logic.{∥∥₁_map}
 use Rattle.wrapper_parts.specs.Staged.{change_is, write_is}
 use Rattle.sqlite_tables.specs.Layouts.{layout_at}
@@ -14,6 +14,7 @@ use Rattle.sqlite_wrapper.specs.Changes.{NamesOnce, names_rows, write_fits}
 use Rattle.sqlite_wrapper.specs.Boxes.{sqlite_state}
 use Rattle.sqlite_wrapper.specs.Clean.{IsSureChange}
 use Rattle.sqlite_wrapper.specs.Counts.{AreCounts, AreFew, held_for}
+use Rattle.sqlite_wrapper.specs.Failing.{FailsToWrite}
 use Rattle.sqlite_wrapper.proofs.Failures.{of_write}
 use Rattle.sqlite_wrapper.proofs.Looking.{looks_after}
 use Rattle.sqlite_wrapper.proofs.Closing.{same_rows, looks_closed, sqlite_closes, sqlite_keeps, within}
@@ -252,7 +253,11 @@ returns-in-Err-clause-clean_err g c before steady may =
 
 pub returns-in-Err-clause-reported : goal.returns-in-Err-clause-reported
 returns-in-Err-clause-reported g c h =
-    of_write c.args.self.now.staged write_is c.in-Some.write _ (sym c.take.ensures.value ∙ c.in-Some.is) (c.in-Err.ensures.reported h)
+    let s = c.args.self.now in
+    of_write s.staged write_is c.in-Some.write
+    (λ (w : Staging). FailsToWrite g.S.Store g.S.SourceStore.honest (layout_at w.table) w.changes s.watch c.write_rows.new.watch
+    s.conn c.write_rows.new.conn c.in-Err.fault)
+    (sym c.take.ensures.value ∙ c.in-Some.is) (c.in-Err.ensures.reported h)
 
 pub returns-in-Err-clause-clean_reported : goal.returns-in-Err-clause-clean_reported
 returns-in-Err-clause-clean_reported g c before steady texts =
@@ -263,4 +268,7 @@ returns-in-Err-clause-clean_reported g c before steady texts =
       writable = texts write.table;
       ordered = entries_ordered g.S.Store s.conn (layout_at write.table) before c.schema-schema.ensures.live (texts write.table);
     } in
-    of_write s.staged write_is write _ (sym c.take.ensures.value ∙ c.in-Some.is) (c.in-Err.ensures.sure_reported sure)
+    of_write s.staged write_is write
+    (λ (w : Staging). FailsToWrite g.S.Store g.S.SourceStore.honest (layout_at w.table) w.changes s.watch c.write_rows.new.watch
+    s.conn c.write_rows.new.conn c.in-Err.fault)
+    (sym c.take.ensures.value ∙ c.in-Some.is) (c.in-Err.ensures.sure_reported sure)
