@@ -1,5 +1,32 @@
 -- What unbinding does to a SQLite source.
-use Rattle.std.proofs.Common.{◌≡◌, ◌≢◌, ℕ, ◌<◌, ◌⊎◌, Bool, true, false, List, [], ◌∷◌, Option, None, IsSome, length, slice_index_or, slice_set, zero, suc, refl, ap, arith, rules, eqb, inl, inr}
+use Rattle.std.proofs.Common.{
+  ◌≡◌,
+  ◌≢◌,
+  ℕ,
+  ◌<◌,
+  ◌⊎◌,
+  Bool,
+  true,
+  false,
+  List,
+  [],
+  ◌∷◌,
+  Option,
+  None,
+  IsSome,
+  length,
+  slice_index_or,
+  slice_set,
+  zero,
+  suc,
+  refl,
+  ap,
+  arith,
+  rules,
+  eqb,
+  inl,
+  inr,
+}
 use Rattle.std.specs.BTreeMap.{BTreeMap}
 use Rattle.std.proofs.lemmas.Bool.Decides.{eqb_tells}
 use Rattle.sqlite.specs.Effect.{Database}
@@ -19,7 +46,9 @@ pub marks : (bound : List Bool) (t : ℕ) (b : Bool) (new : Option BoxTable) →
     → marked_bound (slice_index_or (slice_set bound t b) q false) q ≡ set_at (λ u. marked_bound (slice_index_or bound u false) u) t new q
 marks bound t b new lt e q = split (eqb_tells q t)
   where
-    split : ((eqb q t ≡ true) × (q ≡ t)) ⊎ ((eqb q t ≡ false) × (q ≢ t)) → marked_bound (slice_index_or (slice_set bound t b) q false) q ≡ set_at (λ u. marked_bound (slice_index_or bound u false) u) t new q
+    split : ((eqb q t ≡ true) × (q ≡ t)) ⊎ ((eqb q t ≡ false) × (q ≢ t))
+        → marked_bound (slice_index_or (slice_set bound t b) q false) q
+        ≡ set_at (λ u. marked_bound (slice_index_or bound u false) u) t new q
     split (inl s) = rw (s.0, s.1, mark_same bound t b lt) e
     split (inr s) = rw (s.0, mark_other bound t q b s.1) refl
 
@@ -32,10 +61,13 @@ marked_within (b ∷ bs) (suc t) u e = let n = marked_within bs t u e in omega a
 pub bound_within : (bound : List Bool) (t : ℕ) → IsSome (marked_bound (slice_index_or bound t false) t) → t < length bound
 bound_within bound t e = marked_within bound t t e
 
-pub sqlite_unbinds : (honest : Bool) (bound : List Bool) (staged : Option StagedWrite) (db : Database) (scans : BTreeMap ℕ KeyScan) (next pulled faults t : ℕ) → t < length bound
-    → Unbinds (sqlite_state honest db bound scans staged next pulled faults) t (sqlite_state honest db (slice_set bound t false) scans staged next pulled faults)
+pub sqlite_unbinds : (honest : Bool) (bound : List Bool) (staged : Option StagedWrite) (db : Database) (scans : BTreeMap ℕ KeyScan)
+    (next pulled faults t : ℕ) → t < length bound
+    → Unbinds (sqlite_state honest db bound scans staged next pulled faults) t
+    (sqlite_state honest db (slice_set bound t false) scans staged next pulled faults)
 sqlite_unbinds honest bound staged db scans next pulled faults t lt = record {
   nature = refl;
-  ledger = ap (λ (f : ℕ → Option BoxTable). record (sqlite_state honest db bound scans staged next pulled faults).ledger { tables = f }) (λ i q. marks bound t false None lt refl q i);
+  ledger = ap (λ (f : ℕ → Option BoxTable). record (sqlite_state honest db bound scans staged next pulled faults).ledger { tables = f })
+      (λ i q. marks bound t false None lt refl q i);
   leaves = λ h. record { coming = λ q l o. refl; rows = λ u o. refl; holdings = λ r o. refl };
 }

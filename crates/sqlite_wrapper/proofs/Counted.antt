@@ -1,5 +1,32 @@
 -- The numbers of rows that are held for the tables of a database, after one is put in.
-use Rattle.std.proofs.Common.{◌≡◌, ◌≢◌, ◌∙◌, ◌⊎◌, ℕ, ◌≤◌, true, List, [], ◌∷◌, Option, Some, None, length, slice_set, IfSome, zero, suc, inl, inr, refl, sym, ap, subst, arith, nat_lt}
+use Rattle.std.proofs.Common.{
+  ◌≡◌,
+  ◌≢◌,
+  ◌∙◌,
+  ◌⊎◌,
+  ℕ,
+  ◌≤◌,
+  true,
+  List,
+  [],
+  ◌∷◌,
+  Option,
+  Some,
+  None,
+  length,
+  slice_set,
+  IfSome,
+  zero,
+  suc,
+  inl,
+  inr,
+  refl,
+  sym,
+  ap,
+  subst,
+  arith,
+  nat_lt,
+}
 use Rattle.std.proofs.lemmas.Option.{same_Some}
 use Rattle.sqlite.specs.Effect.{Database}
 use Rattle.med_value.specs.Limits.{row_limit}
@@ -17,7 +44,8 @@ none_counts db counts none t n e = absurd (not_both (held_for counts t) n (none 
 pub none_few : (counts : List (Option ℕ)) → ((t : ℕ) → held_for counts t ≡ None) → AreFew counts
 none_few counts none t n e = absurd (not_both (held_for counts t) n (none t) e)
 
-next_one : (t q n : ℕ) (c o : Option ℕ) → ((q ≡ t) × (c ≡ Some n)) ⊎ ((q ≢ t) × (o ≡ Some n)) → ((suc q ≡ suc t) × (c ≡ Some n)) ⊎ ((suc q ≢ suc t) × (o ≡ Some n))
+next_one : (t q n : ℕ) (c o : Option ℕ) → ((q ≡ t) × (c ≡ Some n)) ⊎ ((q ≢ t) × (o ≡ Some n)) → ((suc q ≡ suc t) × (c ≡ Some n))
+    ⊎ ((suc q ≢ suc t) × (o ≡ Some n))
 next_one t q n c o (inl e) = inl (ap suc e.0, e.1)
 next_one t q n c o (inr e) = inr (λ same. e.0 (omega arith), e.1)
 
@@ -31,7 +59,8 @@ put_is (x ∷ xs) (suc t) zero n c e = inr (λ same. absurd (omega arith), e)
 put_is (x ∷ xs) (suc t) (suc q) n c e = next_one t q n c (held_for xs q) (put_is xs t q n c e)
 
 -- a table's number is put in, and the other tables have the rows that they had
-pub put_counts : (old new : Database) (counts : List (Option ℕ)) (t count : ℕ) → AreCounts old counts → nat_lt t layout_count ≡ true → count ≡ length (rows_of new (layout_at t))
+pub put_counts : (old new : Database) (counts : List (Option ℕ)) (t count : ℕ) → AreCounts old counts → nat_lt t layout_count ≡ true
+    → count ≡ length (rows_of new (layout_at t))
     → ((q : ℕ) → q ≢ t → rows_at new q ≡ rows_at old q) → AreCounts new (slice_set counts t (Some count))
 put_counts old new counts t count are within is others q n e = go (put_is counts t q n (Some count) e)
   where
@@ -43,7 +72,8 @@ put_counts old new counts t count are within is others q n e = go (put_is counts
     go (inr s) = are q n s.1 ∙ ap length (sym (others q s.0))
 
 -- what is held for a table, read off
-pub held_is : (db : Database) (counts : List (Option ℕ)) (t : ℕ) (o : Option ℕ) → AreCounts db counts → nat_lt t layout_count ≡ true → o ≡ held_for counts t
+pub held_is : (db : Database) (counts : List (Option ℕ)) (t : ℕ) (o : Option ℕ) → AreCounts db counts → nat_lt t layout_count ≡ true
+    → o ≡ held_for counts t
     → IfSome o (λ n. n ≡ length (rows_of db (layout_at t)))
 held_is db counts t None are within e = tt
 held_is db counts t (Some n) are within e = rw within at (are t n (sym e))

@@ -1,5 +1,28 @@
 -- The next row of a page.
-use Rattle.std.proofs.Common.{◌≡◌, ℕ, ℤ, ◌+◌, ◌<◌, ◌<ℤ◌, Bool, true, false, ◌&&◌, int_le, List, [], ◌∷◌, Some, slice_get, drop, length, zero, suc, refl, arith}
+use Rattle.std.proofs.Common.{
+  ◌≡◌,
+  ℕ,
+  ℤ,
+  ◌+◌,
+  ◌<◌,
+  ◌<ℤ◌,
+  Bool,
+  true,
+  false,
+  ◌&&◌,
+  int_le,
+  List,
+  [],
+  ◌∷◌,
+  Some,
+  slice_get,
+  drop,
+  length,
+  zero,
+  suc,
+  refl,
+  arith,
+}
 use Rattle.std.proofs.lemmas.Int.{ints}
 use Rattle.sqlite.specs.Order.{Row as SqlRow}
 use Rattle.med_value.specs.Datum.{Tuple}
@@ -17,7 +40,8 @@ at_drop (x ∷ xs) (suc at) r e =
     let n : suc at + 1 ≡ suc (at + 1) = omega arith in
     (omega (arith, w.0), rw n w.1)
 
-pub row_same : (spec : Spec) (l : Layout) (r : SqlRow) (k : ℤ) (n : ℕ) (cells seen : Tuple) → k ≡ key_in r → n ≡ id_of k → cells ≡ page_cells l r → seen ≡ shown_cells spec cells
+pub row_same : (spec : Spec) (l : Layout) (r : SqlRow) (k : ℤ) (n : ℕ) (cells seen : Tuple) → k ≡ key_in r → n ≡ id_of k
+    → cells ≡ page_cells l r → seen ≡ shown_cells spec cells
     → ◌≡◌ {A = GivenRow} (record { id = n; cells = seen }) (given_of spec l r)
 row_same spec l r k n cells seen a b c d = rw (b, d, a, c) refl
 
@@ -49,12 +73,14 @@ fits_in s r = row_fits (kinds_in (layout_at s.table)) (page_cells (layout_at s.t
 
 -- a scan whose range is shut, or whose range the row's key is below or above, may not give it
 pub shut : (s : KeyScan) (r : SqlRow) → s.«open» ≡ false → may_be_next s r ≡ false
-shut s r off = third (is_row r) (fits_in s r) s.«open» (int_le s.low (key_in r)) (int_le (key_in r) s.high) off
+shut s r off = third (is_row (layout_at s.table) r) (fits_in s r) s.«open» (int_le s.low (key_in r)) (int_le (key_in r) s.high) off
 
 pub too_low : (s : KeyScan) (r : SqlRow) → key_in r <ℤ s.low → may_be_next s r ≡ false
 too_low s r less =
-    fourth (is_row r) (fits_in s r) s.«open» (int_le s.low (key_in r)) (int_le (key_in r) s.high) (under s.low (key_in r) less)
+    fourth (is_row (layout_at s.table) r) (fits_in s r) s.«open» (int_le s.low (key_in r)) (int_le (key_in r) s.high)
+    (under s.low (key_in r) less)
 
 pub too_high : (s : KeyScan) (r : SqlRow) → s.high <ℤ key_in r → may_be_next s r ≡ false
 too_high s r more =
-    fifth (is_row r) (fits_in s r) s.«open» (int_le s.low (key_in r)) (int_le (key_in r) s.high) (under (key_in r) s.high more)
+    fifth (is_row (layout_at s.table) r) (fits_in s r) s.«open» (int_le s.low (key_in r)) (int_le (key_in r) s.high)
+    (under (key_in r) s.high more)

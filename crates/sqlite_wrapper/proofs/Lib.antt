@@ -1,4 +1,5 @@
 pub mod Maps
+pub mod Keys
 pub mod Rising
 pub mod Coming
 pub mod LiveScans
@@ -15,3 +16,4 @@ pub mod Rewriting
 pub mod Closing
 pub mod Counted
 pub mod Looking
+pub mod Failures

@@ -15,14 +15,16 @@ unmarked zero t = refl
 unmarked (suc n) zero = refl
 unmarked (suc n) (suc t) = unmarked n t
 
-pub new_source : (honest : Bool) (db : Database) (bound : List Bool) (scans : BTreeMap ℕ KeyScan) → bound ≡ replicate layout_count false → ((q : ℕ) → tree.get nat_cmp scans q ≡ None)
+pub new_source : (honest : Bool) (db : Database) (bound : List Bool) (scans : BTreeMap ℕ KeyScan) → bound ≡ replicate layout_count false
+    → ((q : ℕ) → tree.get nat_cmp scans q ≡ None)
     → IsNewSqlite honest db (sqlite_state honest db bound scans None 0 0 0)
 new_source honest db bound scans none_bound none_live = record {
   kind = refl;
   honest_is = refl;
   numbers = refl;
   idle = record {
-    no_table = λ t. ap (λ (l : List Bool). marked_bound (slice_index_or l t false) t) none_bound ∙ ap (λ (f : Bool). marked_bound f t) (unmarked layout_count t);
+    no_table = λ t. ap (λ (l : List Bool). marked_bound (slice_index_or l t false) t) none_bound
+        ∙ ap (λ (f : Bool). marked_bound f t) (unmarked layout_count t);
     no_scan = λ q. mapped_get scan_is scans q ∙ ap (option_map scan_is) (none_live q);
     no_staging = refl;
   };

@@ -1,5 +1,31 @@
 -- A write as a rewrite of a table's entries.
-use Rattle.std.proofs.Common.{◌≡◌, ◌≢◌, ◌∙◌, ℕ, ◌+◌, ◌-◌, ◌<◌, ◌≤◌, ℤ, Bool, true, false, List, [], None, map, length, nat_eq, nat_lt, Contains, refl, sym, ap, subst, arith}
+use Rattle.std.proofs.Common.{
+  ◌≡◌,
+  ◌≢◌,
+  ◌∙◌,
+  ℕ,
+  ◌+◌,
+  ◌-◌,
+  ◌<◌,
+  ◌≤◌,
+  ℤ,
+  Bool,
+  true,
+  false,
+  List,
+  [],
+  None,
+  map,
+  length,
+  nat_eq,
+  nat_lt,
+  Contains,
+  refl,
+  sym,
+  ap,
+  subst,
+  arith,
+}
 use Rattle.std.specs.List.{IsDistinct, list_any}
 use Rattle.std.proofs.lemmas.List.{length-map}
 use Rattle.std.proofs.lemmas.List.Sorted.{length_permutation}
@@ -34,8 +60,10 @@ third_cause false true = (1, omega arith, refl)
 third_cause false false = (0, omega arith, refl)
 
 -- a row without a key
-pub keyless : (rows : List TableRow) (changes : List Change) → list_any lacks_key changes ≡ true → Contains (write_causes rows changes) NotNull
-keyless rows changes e = rw e (first_cause (repeats (map key_cell (rows_after no_line rows changes))) (nat_lt 1000000 (length (rows_after no_line rows changes))))
+pub keyless : (rows : List TableRow) (changes : List Change) → list_any lacks_key changes ≡ true
+    → Contains (write_causes rows changes) NotNull
+keyless rows changes e = rw e (first_cause (repeats (map key_cell (rows_after no_line rows changes)))
+    (nat_lt 1000000 (length (rows_after no_line rows changes))))
 
 module _ (old : Database) (l : Layout) (changes : List Change) where
   abbrev rows : List TableRow
@@ -51,39 +79,41 @@ module _ (old : Database) (l : Layout) (changes : List Change) where
   pub too_many : (count fresh gone : ℕ) → count ≡ length rows → fresh ≡ length (rows_come changes) → gone ≡ length (keys_gone changes)
       → length after + length (keys_gone changes) ≡ length rows + length (rows_come changes) → 1000000 + gone < count + fresh
       → Contains (write_causes rows changes) TooLarge
-  too_many count fresh gone count_is fresh_is gone_is law lt = rw big (third_cause (list_any lacks_key changes) (repeats (map key_cell after)))
+  too_many count fresh gone count_is fresh_is gone_is law lt = rw big
+      (third_cause (list_any lacks_key changes) (repeats (map key_cell after)))
     where
       big : nat_lt 1000000 (length after) ≡ true
       big = grind (arith, count_is, fresh_is, gone_is, law, lt)
 
-  -- a key that would stand twice
-  pub repeated : repeats_key (keys_gone changes) (rows_come changes) entries ≡ repeats (map key_cell after)
-      → repeats_key (keys_gone changes) (rows_come changes) entries ≡ true → Contains (write_causes rows changes) NotUnique
+  -- a key that would be there twice
+  pub repeated : repeats_key l (keys_gone changes) (rows_come changes) entries ≡ repeats (map key_cell after)
+      → repeats_key l (keys_gone changes) (rows_come changes) entries ≡ true → Contains (write_causes rows changes) NotUnique
   repeated law e = rw (sym law ∙ e) (second_cause (list_any lacks_key changes) (nat_lt 1000000 (length after)))
 
   -- exactly the changes are made
   pub rewrites : (new : Database) (count fresh gone : ℕ) → new.schema ≡ old.schema → tree_found old.schema l ≢ None
-      → entries_of new l ≡ rewritten (keys_gone changes) (rows_come changes) entries → KeepsTables old new l
-      → list_any lacks_key changes ≡ false → repeats_key (keys_gone changes) (rows_come changes) entries ≡ false
+      → entries_of new l ≡ rewritten l (keys_gone changes) (rows_come changes) entries → KeepsTables old new l
+      → list_any lacks_key changes ≡ false → repeats_key l (keys_gone changes) (rows_come changes) entries ≡ false
       → count ≡ length rows → fresh ≡ length (rows_come changes) → gone ≡ length (keys_gone changes) → count + fresh ≤ 1000000 + gone
       → length after + length (keys_gone changes) ≡ length rows + length (rows_come changes)
-      → repeats_key (keys_gone changes) (rows_come changes) entries ≡ repeats (map key_cell after)
-      → map held (rows_in l (rewritten (keys_gone changes) (rows_come changes) entries)) ≡ in_key_order after
-      → IsDistinct nat_eq (map (λ (r : TableRow). r.id) (rows_in l (rewritten (keys_gone changes) (rows_come changes) entries)))
+      → repeats_key l (keys_gone changes) (rows_come changes) entries ≡ repeats (map key_cell after)
+      → map held (rows_in l (rewritten l (keys_gone changes) (rows_come changes) entries)) ≡ in_key_order after
+      → IsDistinct nat_eq (map (λ (r : TableRow). r.id) (rows_in l (rewritten l (keys_gone changes) (rows_come changes) entries)))
       → Rewrites old new l changes
-  rewrites new count fresh gone schema there is others keyed free count_is fresh_is gone_is le count_law repeats_law rows_law once_law = record {
-    schema = schema;
-    there = there;
-    no_cause = rw (keyed, sym repeats_law ∙ free, few) refl;
-    rows = ap (λ (es : List SqlRow). map held (rows_in l es)) is ∙ rows_law;
-    once = subst (λ (es : List SqlRow). IsDistinct nat_eq (map (λ (r : TableRow). r.id) (rows_in l es))) (sym is) once_law;
-    others = others;
-  }
+  rewrites new count fresh gone schema there is others keyed free count_is fresh_is gone_is le count_law repeats_law rows_law once_law =
+      record {
+        schema = schema;
+        there = there;
+        no_cause = rw (keyed, sym repeats_law ∙ free, few) refl;
+        rows = ap (λ (es : List SqlRow). map held (rows_in l es)) is ∙ rows_law;
+        once = subst (λ (es : List SqlRow). IsDistinct nat_eq (map (λ (r : TableRow). r.id) (rows_in l es))) (sym is) once_law;
+        others = others;
+      }
     where
       few : nat_lt 1000000 (length after) ≡ false
       few = grind (arith, count_is, fresh_is, gone_is, count_law, le)
 
-  -- so many rows stand in a table after its changes are made
+  -- how many rows a table has after its changes are made
   pub rows_left : (new : Database) (count fresh gone left : ℕ) → Rewrites old new l changes
       → count ≡ length rows → fresh ≡ length (rows_come changes) → gone ≡ length (keys_gone changes) → left ≡ count + fresh - gone
       → length after + length (keys_gone changes) ≡ length rows + length (rows_come changes) → left ≡ length (rows_of new l)
@@ -94,12 +124,14 @@ module _ (old : Database) (l : Layout) (changes : List Change) where
 
 -- ---- by what a call came to
 
-pub by_keyless : (rows : List TableRow) (changes : List Change) (fault : Fault) (more : Cause → Type 0) → (list_any lacks_key changes ≡ true → more NotNull)
+pub by_keyless : (rows : List TableRow) (changes : List Change) (fault : Fault) (more : Cause → Type 0)
+    → (list_any lacks_key changes ≡ true → more NotNull)
     → IsKeyless changes fault → OnlyBy more fault
 by_keyless rows changes NoMemory more f h = tt
 by_keyless rows changes Source more f h = absurd h
 by_keyless rows changes (Refused c) more f h = subst more (sym h.0) (f h.1)
 
--- the same of the same arguments
-pub three : {X : Type 0} (F : List ℤ → List Tuple → List SqlRow → X) (a b : List ℤ) (c d : List Tuple) (x y : List SqlRow) → a ≡ b → c ≡ d → x ≡ y → F a c x ≡ F b d y
+-- equal arguments give equal results
+pub three : {X : Type 0} (F : List ℤ → List Tuple → List SqlRow → X) (a b : List ℤ) (c d : List Tuple) (x y : List SqlRow) → a ≡ b → c ≡ d
+    → x ≡ y → F a c x ≡ F b d y
 three F a b c d x y p q r = rw (p, q, r) refl

@@ -1,5 +1,37 @@
 -- A change that is staged keeps a write of its table's types.
-use Rattle.std.proofs.Common.{◌≡◌, ℕ, Bool, true, false, ◌&&◌, List, [], ◌∷◌, ◌++◌, Option, Some, None, IsSome, IfSome, Result, Ok, Err, OnOk, IfErr, IsTrue, map, option_map, slice_index_or, refl, ap, sym, ◌∙◌, subst, nat_lt, length}
+use Rattle.std.proofs.Common.{
+  ◌≡◌,
+  ℕ,
+  Bool,
+  true,
+  false,
+  ◌&&◌,
+  List,
+  [],
+  ◌∷◌,
+  ◌++◌,
+  Option,
+  Some,
+  None,
+  IsSome,
+  IfSome,
+  Result,
+  Ok,
+  Err,
+  OnOk,
+  IfErr,
+  IsTrue,
+  map,
+  option_map,
+  slice_index_or,
+  refl,
+  ap,
+  sym,
+  ◌∙◌,
+  subst,
+  nat_lt,
+  length,
+}
 use Rattle.std.specs.List.{list_all}
 use Rattle.std.specs.BTreeMap.{BTreeMap}
 use Rattle.std.proofs.lemmas.Option.{same_Some}
@@ -23,7 +55,8 @@ one_more : (p : Change → Bool) (cs : List Change) (c : Change) → list_all p 
 one_more p [] c all one = rw one refl
 one_more p (d ∷ cs) c all one = go (p d) all (λ e. one_more p cs c e one)
   where
-    go : (b : Bool) → (b && list_all p cs) ≡ true → (list_all p cs ≡ true → list_all p (cs ++ c ∷ []) ≡ true) → (b && list_all p (cs ++ c ∷ [])) ≡ true
+    go : (b : Bool) → (b && list_all p cs) ≡ true → (list_all p cs ≡ true → list_all p (cs ++ c ∷ []) ≡ true)
+        → (b && list_all p (cs ++ c ∷ [])) ≡ true
     go true e more = more e
     go false e more = e
 
@@ -31,7 +64,8 @@ there : (o : Option StagedWrite) (s : Staging) → option_map write_is o ≡ Som
 there None s e = absurd cc
 there (Some w) s e = refl
 
-module _ (honest : Bool) (db : Database) (bound : List Bool) (m : BTreeMap ℕ KeyScan) (staged : Option StagedWrite) (next pulled faults : ℕ) (change : Change)
+module _ (honest : Bool) (db : Database) (bound : List Bool) (m : BTreeMap ℕ KeyScan) (staged : Option StagedWrite)
+    (next pulled faults : ℕ) (change : Change)
     (can : CanChange (sqlite_state honest db bound m staged next pulled faults) change) where
   abbrev is_there : IsSome staged
   is_there = there staged can.staging can.is_staged
@@ -49,9 +83,11 @@ module _ (honest : Bool) (db : Database) (bound : List Bool) (m : BTreeMap ℕ K
   fits =
       let at : marked_bound (slice_index_or bound write.table false) write.table ≡ Some can.bound =
       subst (λ (z : Staging). marked_bound (slice_index_or bound z.table false) z.table ≡ Some can.bound) same can.is in
-      subst (λ (k : List ColType). row_of_change_fits k change ≡ true) (bound_kinds (slice_index_or bound write.table false) write.table can.bound at) can.fits
+      subst (λ (k : List ColType). row_of_change_fits k change ≡ true)
+      (bound_kinds (slice_index_or bound write.table false) write.table can.bound at) can.fits
 
-  old_fits : IsTrue (write_fits (option_map write_is staged)) → list_all (row_of_change_fits (kinds_in (layout_at write.table))) (map change_is write.changes.items) ≡ true
+  old_fits : IsTrue (write_fits (option_map write_is staged))
+      → list_all (row_of_change_fits (kinds_in (layout_at write.table))) (map change_is write.changes.items) ≡ true
   old_fits typed = subst (λ (o : Option StagedWrite). IsTrue (write_fits (option_map write_is o))) is typed
 
   pub typed_after : {T : Type 0} (r : Result T Fault) (new : Option StagedWrite) → IsTrue (write_fits (option_map write_is staged))
@@ -77,7 +113,8 @@ module _ (honest : Bool) (db : Database) (bound : List Bool) (m : BTreeMap ℕ K
       → NamesOnce (option_map write_is new)
   named_after more (Ok x) new named ok err =
       subst NamesOnce (sym (if_some staged _ write is ok))
-      (more (map change_is write.changes.items) change (old_named named) (subst (λ (z : Staging). is_first z.changes change ≡ true) same can.once))
+      (more (map change_is write.changes.items) change (old_named named)
+      (subst (λ (z : Staging). is_first z.changes change ≡ true) same can.once))
   named_after more (Err e) new named ok err = subst NamesOnce (sym (if_some staged _ write is err.1)) (old_named named)
 
   within : length bound ≡ layout_count → nat_lt write.table layout_count ≡ true
@@ -92,15 +129,18 @@ module _ (honest : Bool) (db : Database) (bound : List Bool) (m : BTreeMap ℕ K
 
   one_there : length bound ≡ layout_count → honest ≡ true → id_is_there (rows_of db (layout_at write.table)) change ≡ true
   one_there each h =
-      let at : id_is_there (rows_at db write.table) change ≡ true = subst (λ (z : Staging). id_is_there (rows_at db z.table) change ≡ true) same (can.there h) in
+      let at : id_is_there (rows_at db write.table) change ≡ true =
+      subst (λ (z : Staging). id_is_there (rows_at db z.table) change ≡ true) same (can.there h) in
       rw (within each) at at
 
-  pub there_more : length bound ≡ layout_count → {T : Type 0} (r : Result T Fault) (new : Option StagedWrite) → (honest ≡ true → names_rows db (option_map write_is staged) ≡ true)
+  pub there_more : length bound ≡ layout_count → {T : Type 0} (r : Result T Fault) (new : Option StagedWrite)
+      → (honest ≡ true → names_rows db (option_map write_is staged) ≡ true)
       → OnOk r (IfSome staged (λ s. option_map write_is new ≡ Some (with_change s change)))
       → IfErr r (λ fault. (fault ≡ NoMemory) × IfSome staged (λ s. option_map write_is new ≡ Some (broken_write s)))
       → honest ≡ true → names_rows db (option_map write_is new) ≡ true
   there_more each (Ok x) new names ok err h =
       subst (λ (o : Option Staging). names_rows db o ≡ true) (sym (if_some staged _ write is ok))
-      (one_more (id_is_there (rows_of db (layout_at write.table))) (map change_is write.changes.items) change (old_there names h) (one_there each h))
+      (one_more (id_is_there (rows_of db (layout_at write.table))) (map change_is write.changes.items) change (old_there names h)
+      (one_there each h))
   there_more each (Err e) new names ok err h =
       subst (λ (o : Option Staging). names_rows db o ≡ true) (sym (if_some staged _ write is err.1)) (old_there names h)

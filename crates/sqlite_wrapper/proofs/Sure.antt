@@ -11,7 +11,11 @@ use Rattle.sqlite_wrapper.proofs.Giving.{known_by}
 
 -- what it reads first
 pub write_first : {a b c : State} {l : Layout} → (IsCleanAfter c → IsCleanAfter b) → IsSureWrite a c l → IsSure a b l
-write_first {a} {b} {c} {l} was_clean h = record { after = was_clean h.after; known = ∥∥₁_map h.writable (known_by a.now.schema l); ordered = h.ordered }
+write_first {a} {b} {c} {l} was_clean h = record {
+  after = was_clean h.after;
+  known = ∥∥₁_map h.writable (known_by a.now.schema l);
+  ordered = h.ordered;
+}
 
 -- and what it then writes
 pub write_then : {a b c : State} {l : Layout} → b.now ≡ a.now → IsSureWrite a c l → IsSureWrite b c l
@@ -25,7 +29,7 @@ write_then {a} {b} {c} {l} same h = record {
 pub write_read : {a b : State} {l : Layout} → IsSureWrite a b l → IsSure a b l
 write_read {a} {b} {l} h = record { after = h.after; known = ∥∥₁_map h.writable (known_by a.now.schema l); ordered = h.ordered }
 
--- what holds anyway holds where a call answers well
+-- what holds anyway holds where a call returns no fault
 pub on_ok : {T F : Type 0} (r : Result T F) (P : Type 0) → P → OnOk r P
 on_ok (Ok x) P p = p
 on_ok (Err f) P p = tt

@@ -1,5 +1,35 @@
--- What a SQLite source shows: its bound tables, its scans, and the rows that stand in its database.
-use Rattle.std.specs.Prelude.{◌≡◌, ◌≢◌, ℕ, ℤ, pos, ◌+ℤ◌, ◌-ℤ◌, ◌-◌, Bool, true, false, not, ◌&&◌, List, [], ◌∷◌, ◌++◌, map, drop, Option, Some, None, option_map, slice_index_or, nat_eq, nat_lt, int_le, FitsSigned, if◌then◌else◌}
+-- What a SQLite source shows: its bound tables, its scans, and the rows that are in its database.
+use Rattle.std.specs.Prelude.{
+  ◌≡◌,
+  ◌≢◌,
+  ℕ,
+  ℤ,
+  pos,
+  ◌+ℤ◌,
+  ◌-ℤ◌,
+  ◌-◌,
+  Bool,
+  true,
+  false,
+  not,
+  ◌&&◌,
+  List,
+  [],
+  ◌∷◌,
+  ◌++◌,
+  map,
+  drop,
+  Option,
+  Some,
+  None,
+  option_map,
+  slice_index_or,
+  nat_eq,
+  nat_lt,
+  int_le,
+  FitsSigned,
+  if◌then◌else◌,
+}
 use Rattle.std.specs.Ordering.{nat_cmp}
 use Rattle.std.specs.FinMap as finmap
 use Rattle.std.specs.BTreeMap as tree
@@ -8,11 +38,43 @@ use Rattle.std.specs.Int.{w64}
 use borrow.Author.Differences.{up, down}
 use Rattle.sqlite.specs.Effect.{Database}
 use Rattle.sqlite.specs.Order.{Row as SqlRow}
-use Rattle.sqlite_tables.specs.Prelude.{range_of, entries_of, rows_of, entry_of, behind, Layout, kinds_in, layout_at, layout_count, place_of, row_in}
+use Rattle.sqlite_tables.specs.Prelude.{
+  range_of,
+  entries_of,
+  rows_of,
+  entry_of,
+  behind,
+  Layout,
+  kinds_in,
+  layout_at,
+  layout_count,
+  place_of,
+  places,
+  row_in,
+}
 use Rattle.wrapper_parts.specs.Ranges.{has_key, only_key_tests, plain_is_allowed}
 use Rattle.wrapper_parts.specs.declared.ranges.KeyRange.{KeyRange}
 use Rattle.med_value.specs.Datum.{Whole, Tuple, datum}
-use Rattle.fdw_api.specs.Prelude.{KeyForm, Spec, first_of, spec_of, TableRow, GivenRow, given_row, meets_exact, Entry, Holding, Known, BoxTable, Scan, Ledger, Content, BoxState, whole_asks_rest, key_form}
+use Rattle.fdw_api.specs.Prelude.{
+  KeyForm,
+  Spec,
+  first_of,
+  spec_of,
+  TableRow,
+  GivenRow,
+  given_row,
+  meets_exact,
+  Entry,
+  Holding,
+  Known,
+  BoxTable,
+  Scan,
+  Ledger,
+  Content,
+  BoxState,
+  whole_asks_rest,
+  key_form,
+}
 use Rattle.fdw_api.specs.declared.wishes.OrderKey.{OrderKey}
 use Rattle.sqlite_wrapper.specs.declared.scans.KeyScan.{KeyScan}
 use Rattle.wrapper_parts.specs.declared.changes.StagedWrite.{StagedWrite}
@@ -24,7 +86,7 @@ abbrev pub entry_at : Database → Option ℕ → Option Entry
 entry_at db None = None
 entry_at db (Some t) = entry_of db (layout_at t)
 
--- the order that is empty, or the key ascending: rows come so anyway, and no key is NULL
+-- the order that is empty, or the key ascending: rows come so anyway, and no key is NULL. The key is the first column of each layout
 abbrev pub is_by_key : List KeyForm → Bool
 is_by_key [] = true
 is_by_key (k ∷ []) = nat_eq k.column 0 && not k.descending
@@ -84,9 +146,10 @@ scan_is s = record {
 abbrev pub unread : KeyScan → List SqlRow
 unread s = drop s.at s.page.items
 
--- the rows that a scan has still to give: those of its page, and behind a full page those of the keys behind it
+-- the rows that a scan has still to give: those of its page, and after a full page those of the keys after it
 abbrev pub to_come : List SqlRow → KeyScan → List SqlRow
-to_come entries s = unread s ++ (if s.full then range_of (behind (lowest s) (unread s)) s.high entries else [])
+to_come entries s = unread s ++ (if s.full then range_of (places (layout_at s.table)) (behind (lowest s) (unread s)) s.high entries
+    else [])
 
 abbrev pub given_of : Spec → Layout → SqlRow → GivenRow
 given_of spec l r = given_row spec (row_in l r)
@@ -99,7 +162,7 @@ scan_rows db (Some s) = first_of s.room (map (given_of (asked_of s) (layout_at s
 abbrev pub mapped : {X Y : Type 0} → (X → Y) → List (ℕ × X) → finmap.FinMap nat_cmp Y
 mapped f es = finmap.from_entries (map (λ e. (e.0, f e.1)) es)
 
--- at this number stands `w`, and what stands at another is as before
+-- at this number is `w`, and what is at another is as before
 abbrev pub Sets : {X : Type 0} → BTreeMap ℕ X → BTreeMap ℕ X → ℕ → Option X → Type 0
 Sets old new number w = (tree.get nat_cmp new number ≡ w) × ((q : ℕ) → q ≢ number → tree.get nat_cmp new q ≡ tree.get nat_cmp old q)
 
@@ -113,7 +176,7 @@ sqlite_ledger bound scans staged next pulled faults = record {
   faults = faults;
 }
 
--- what stands under a remote name: a table of the database, or nothing
+-- what is under a remote name: a table of the database, or nothing
 abbrev pub held_in : Database → List ℕ → Holding
 held_in db remote = Known (entry_at db (place_of remote))
 

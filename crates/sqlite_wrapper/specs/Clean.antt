@@ -14,10 +14,14 @@ use Rattle.sqlite_wrapper.specs.Counts.{AreCounts}
 abbrev pub AreKnown : Schema → Type 0
 AreKnown schema = (t : ℕ) → ∥ IsKnown schema (layout_at t) ∥₁
 
+-- each table's three texts either are not understood or are for one table
+abbrev pub AreWritable : Schema → Type 0
+AreWritable schema = (t : ℕ) → ∥ IsWritable schema (layout_at t) ∥₁
+
 -- before a write is kept: each table's three texts either are not understood or are for one table, of no two layouts the same; its
 -- changes name rows that are there; and the numbers of rows that are held are those of the tables
 pub record MayBeKept (db : Database) (staged : Option Staging) (counts : List (Option ℕ)) : Type 0 where
-  pub texts : (t : ℕ) → ∥ IsWritable db.schema (layout_at t) ∥₁
+  pub texts : AreWritable db.schema
   pub apart : AreApart db.schema
   pub there : names_rows db staged ≡ true
   pub counts_are : AreCounts db counts

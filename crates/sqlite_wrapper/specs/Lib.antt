@@ -7,3 +7,4 @@ pub mod SqliteBoxes
 pub mod Rewrites
 pub mod Counts
 pub mod Looks
+pub mod Failing

@@ -1,5 +1,37 @@
--- Which page a scan asks for, and how it stands behind a row.
-use Rattle.std.specs.Prelude.{◌≡◌, ◌⊎◌, ◌-◌, ◌<◌, ◌≤ℤ◌, ℕ, List, [], ◌∷◌, drop, ℤ, pos, ◌+ℤ◌, ◌+◌, Bool, true, false, not, ◌||◌, length, Option, Some, None, option_map, nat_eq, if◌then◌else◌, nat_lt, int_lt, int_le, ◌&&◌, slice_get}
+-- Which page a scan asks for, and what it is after a row.
+use Rattle.std.specs.Prelude.{
+  ◌≡◌,
+  ◌⊎◌,
+  ◌-◌,
+  ◌<◌,
+  ◌≤ℤ◌,
+  ℕ,
+  List,
+  [],
+  ◌∷◌,
+  drop,
+  ℤ,
+  pos,
+  ◌+ℤ◌,
+  ◌+◌,
+  Bool,
+  true,
+  false,
+  not,
+  ◌||◌,
+  length,
+  Option,
+  Some,
+  None,
+  option_map,
+  nat_eq,
+  if◌then◌else◌,
+  nat_lt,
+  int_lt,
+  int_le,
+  ◌&&◌,
+  slice_get,
+}
 use Rattle.sqlite.specs.Order.{Row as SqlRow}
 use Rattle.med_value.specs.Datum.{tuple}
 use Rattle.fdw_api.specs.Prelude.{spec_of, shown_fits, row_fits, row_of}
@@ -20,7 +52,7 @@ wanted_by s =
     if is_spent s.room || (nat_lt s.at (length s.page.items) || (not s.full || not s.open)) then None
     else Some (record { table = s.table; low = s.low; high = s.high })
 
--- behind a row of this key; nothing may come behind the greatest
+-- after a row of this key; nothing may come after the greatest
 abbrev pub passed : KeyScan → ℤ → KeyScan
 passed s key =
     if int_lt key s.high then record s { at = s.at + 1; room = option_map (λ n. n - 1) s.room; low = key +ℤ pos 1 }
@@ -38,7 +70,7 @@ pub record Turns (honest : Bool) (entries : List SqlRow) (old new : KeyScan) : T
 -- whether a row of a page is one of its table's types, of a key that may come
 abbrev pub may_be_next : KeyScan → SqlRow → Bool
 may_be_next s r =
-    is_row r && row_fits (kinds_in (layout_at s.table)) (page_cells (layout_at s.table) r)
+    is_row (layout_at s.table) r && row_fits (kinds_in (layout_at s.table)) (page_cells (layout_at s.table) r)
     && s.«open» && int_le s.low (key_in r) && int_le (key_in r) s.high
 
 -- the next row of the page, where it has one, may not come

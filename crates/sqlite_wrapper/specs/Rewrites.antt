@@ -7,7 +7,7 @@ use Rattle.sqlite_tables.specs.Prelude.{Layout, rows_of, tree_found}
 use Rattle.sqlite_writes.specs.Kinds.{in_key_order, no_line, write_causes}
 use Rattle.sqlite_writes.specs.Writable.{KeepsTables}
 
--- the table is there and no cause stands for the changes: exactly they are made, the rows stand in the order of their keys, each under an
+-- the table is there and no cause applies to the changes: exactly they are made, the rows are in the order of their keys, each under an
 -- id of its own, and the other table has the rows that it had
 pub record Rewrites (old new : Database) (l : Layout) (changes : List Change) : Type 0 where
   pub schema : new.schema ≡ old.schema

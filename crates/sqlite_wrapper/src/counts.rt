@@ -34,9 +34,9 @@ pub(crate) fn forget_count(counts: &mut Vec<Option<usize>>, table: u64, fault: &
     }
 }
 
-/// What is held for a table, where it leaves room for a write of so many new rows that takes so many away.
+/// Returns what is held for a table, where it leaves room for a write of this many new rows that takes this many away.
 ///
-/// Where it leaves none nothing is answered, so that the rows are counted before a write is refused.
+/// Where it leaves none it returns nothing, so that the rows are counted before a write is refused.
 pub(crate) fn with_room(held: Option<usize>, fresh: usize, gone: usize) -> Option<usize>
     ensures { IfSome result (λ n. held ≡ Some n) }
 {

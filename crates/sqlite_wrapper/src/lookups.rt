@@ -166,7 +166,8 @@ pub(crate) fn look_up<S: SourceStore>(
     requires shaped { S.honest ≡ true → IsShaped stored.Table (entries_of (state S.Store conn.old).now (layout_at scan.table)) }
     requires had { S.honest ≡ true
         → IfSome had (IsLookup (layout_at scan.table) (entries_of (state S.Store conn.old).now (layout_at scan.table))) }
-    ensures answered { IfOk result (IsAnswered S.honest (layout_at scan.table) (entries_of (state S.Store conn.old).now (layout_at scan.table)) scan) }
+    ensures answered { IfOk result
+        (IsAnswered S.honest (layout_at scan.table) (entries_of (state S.Store conn.old).now (layout_at scan.table)) scan) }
     ensures refused { IfErr result not_refused }
     ensures same { S.honest ≡ true → (state S.Store conn.new).now ≡ (state S.Store conn.old).now }
     ensures sure_answered { IsSure (state S.Store conn.old) (state S.Store conn.new) (layout_at scan.table)

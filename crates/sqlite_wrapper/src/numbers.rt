@@ -27,7 +27,7 @@ pub(crate) fn shape_of(shapes: &[Shape], table: u64) -> &Shape
     &shapes[table as usize]
 }
 
-/// The entries of the table of a number stand in the order of their keys, where its store always returns what was written.
+/// The entries of the table of a number are in the order of their keys, where its store always returns what was written.
 pub(crate) fn table_rises<S: SourceStore>(conn: &Connection<S>, shapes: &[Shape], table: u64)
     requires shapes { shapes.now ≡ layouts }
     requires within { nat_lt table layout_count ≡ true }

@@ -8,7 +8,7 @@ use fdw_api::wishes::{OrderKey, ScanSpec2};
 use med_value::NoMemory;
 use std::alloc::Global;
 
-/// Whether rows that come by ascending keys stand in this order: it is empty, or the key alone, ascending. No key is NULL.
+/// Returns whether rows that come by ascending keys are in this order: it is empty, or the key alone, ascending. No key is NULL.
 pub(crate) fn is_by_key(order: &[OrderKey]) -> bool
     ensures { result ≡ is_by_key (map key_form order.now) }
 {

@@ -27,7 +27,7 @@ pub(crate) struct GivenNext {
     pub(crate) row: SourceRow,
 }
 
-/// The count of failures behind this fault.
+/// Returns the count of failures after this fault.
 pub(crate) fn faults_after(faults: u64, fault: Fault) -> u64
     ensures { result ≡ faults_after fault faults }
 {

@@ -64,7 +64,7 @@ pub(crate) fn is_spent(room: Option<u64>) -> bool
     }
 }
 
-/// How many rows may come behind a row that came.
+/// Returns how many rows may come after a row that came.
 fn room_behind(room: Option<u64>) -> Option<u64>
     ensures { result ≡ option_map (λ n. n - 1) room }
 {
@@ -175,7 +175,7 @@ pub(crate) fn page_wanted(scans: &BTreeMap<u64, KeyScan>, number: u64) -> Option
     }
 }
 
-/// Puts a page that was read behind the rows that a scan has given.
+/// Puts a page that was read after the rows that a scan has given.
 pub(crate) fn turn_page(scans: &mut BTreeMap<u64, KeyScan>, number: u64, page: Vec<Row>)
     requires { IsSome (tree.get nat_cmp scans.old number) }
     ensures { IfSome (tree.get nat_cmp scans.old number)
@@ -193,7 +193,7 @@ pub(crate) fn turn_page(scans: &mut BTreeMap<u64, KeyScan>, number: u64, page: V
     }
 }
 
-/// Moves a scan behind the next row of its page, which has this key.
+/// Moves a scan past the next row of its page, which has this key.
 pub(crate) fn pass_row(scans: &mut BTreeMap<u64, KeyScan>, number: u64, key: i64)
     requires there { IsSome (tree.get nat_cmp scans.old number) }
     requires more { IfSome (tree.get nat_cmp scans.old number) (λ s. s.at < length s.page.items) }

@@ -18,8 +18,8 @@ use sqlite::Connection;
 use sqlite_tables::{Shape, SourceStore};
 use sqlite_writes::Watch;
 
-// Looks at a remote table whole, as `sqlite_tables::open_table` does, where the files of the database are those that were opened: else the
-// source has failed, and the connection is not used.
+// Looks at a remote table whole, as `sqlite_tables::open_table` does, where the files of the database are those that were opened. Else
+// the source has failed, and the connection is not used.
 fn open_shape<S: SourceStore>(
     conn: &mut Connection<S>,
     watch: &mut Watch,
@@ -59,8 +59,8 @@ fn open_shape<S: SourceStore>(
     }
 }
 
-/// Looks at a remote table whole, as `sqlite_tables::open_table` does, where the files of the database are those that were opened: else the
-/// source has failed, and the connection is not used.
+/// Looks at a remote table whole, as `sqlite_tables::open_table` does, where the files of the database are those that were opened. Else
+/// the source has failed, and the connection is not used.
 pub(crate) fn open_table<S: SourceStore>(
     conn: &mut Connection<S>,
     watch: &mut Watch,

@@ -1,5 +1,25 @@
 //! A SQLite database as a source of foreign tables.
-ghost use Rattle.std.specs.Prelude.{◌≡◌, ◌≤◌, ◌&&◌, ◌⊎◌, OnOk, ℕ, true, false, length, map, None, Some, IsTrue, IsSome, IfOk, IfErr, is_some, option_map};
+ghost use Rattle.std.specs.Prelude.{
+  ◌≡◌,
+  ◌≤◌,
+  ◌&&◌,
+  ◌⊎◌,
+  OnOk,
+  ℕ,
+  true,
+  false,
+  length,
+  map,
+  None,
+  Some,
+  IsTrue,
+  IsSome,
+  IfOk,
+  IfErr,
+  IfSome,
+  is_some,
+  option_map,
+};
 ghost use Rattle.std.specs.Ordering.{nat_cmp};
 ghost use Rattle.std.specs.BTreeMap as tree;
 ghost use Rattle.sqlite.specs.Held.{state};
@@ -41,7 +61,7 @@ use wrapper_parts::{RowChange, StagedWrite, add_change, answers_for};
 /// Its kind is `sqlite_kind`. Its remote tables are those of the layouts, by their numbers: orders is table 0, and people table 1. The id
 /// of a row is the 64 bits of its key. A scan takes over tests of the key alone, gives whole rows in the order of their keys, and reads
 /// them by pages of 64. It promises the order that is empty, or that of the key, ascending, and a limit wherever one may be promised: once
-/// so many rows came it reads no page. A scan of all keys, of which neither is promised and which looks for a parameter, reads its table
+/// that many rows came it reads no page. A scan of all keys, of which neither is promised and which looks for a parameter, reads its table
 /// once when it is begun again, and finds from then on the rows that have the parameter's value, where they are at most 64. It is honest
 /// where its store always returns what was written.
 #[derive(Drop)]
@@ -85,7 +105,7 @@ impl<S: SourceStore + Drop> SqliteWrapper<S> {
     /// The watch is the one that came with the connection, or that of a database in memory.
     ///
     /// It asks that the connection is in no transaction, and of an honest store that each layout's three texts either are not understood
-    /// under its schema or are for one table, of no two layouts the same. It is refused for want of memory alone, and drops the connection
+    /// under its schema or are for one table, of no two layouts the same. It fails when out of memory alone, and drops the connection
     /// then.
     pub fn new(alloc: Global, conn: Connection<S>, watch: Watch) -> Result<Self, NoMemory>
         requires idle { conn.in_transaction ≡ false }
@@ -163,9 +183,30 @@ impl<S: SourceStore + Drop> SqliteWrapper<S> {
 }
 
 impl<S: SourceStore + Drop> Wrapper for SqliteWrapper<S> {
-    ghost use Rattle.fdw_api.specs.Prelude.{spec_by, table_of, CanBind, Binds, RefusesBind, Allows, CanBegin, Begins, RefusesBegin, IsOpen, Iterates, Breaks, CanRescan, Rescans, column_of, option_form, CanClose, Closes, RefusesClose};
+    ghost use Rattle.fdw_api.specs.Prelude.{
+      spec_by,
+      table_of,
+      CanBind,
+      Binds,
+      RefusesBind,
+      Allows,
+      CanBegin,
+      Begins,
+      RefusesBegin,
+      IsOpen,
+      Iterates,
+      Breaks,
+      CanRescan,
+      Rescans,
+      column_of,
+      option_form,
+      CanClose,
+      Closes,
+      RefusesClose,
+    };
     ghost use Rattle.sqlite_tables.specs.Steady.{IsSteady};
-    ghost use Rattle.sqlite_wrapper.specs.Clean.{AreKnown, MayBeKept};
+    ghost use Rattle.sqlite_wrapper.specs.Clean.{AreKnown, AreWritable, MayBeKept};
+    ghost use Rattle.sqlite_wrapper.specs.Failing.{FailsToWrite};
 
     ghost meaning = { λ w. sqlite_state S.honest (state S.Store w.conn).now w.bound.items w.scans w.staged w.next w.pulled w.faults };
 
@@ -440,7 +481,8 @@ impl<S: SourceStore + Drop> Wrapper for SqliteWrapper<S> {
 
     /// Where its store is steady as it begins and as it ends, and the write may be kept (`MayBeKept`), it does what `Wrapper::end_modify`
     /// says of an honest box that holds what the database holds: nobody knows what a disk returns, but such a store has returned what was
-    /// written.
+    /// written. Each failure is one of `FailsToWrite`: the source has failed only where the files are not those that were opened, the
+    /// table cannot be read, or the connection reported an error that is neither a repeated key nor out of memory.
     fn end_modify(&mut self, alloc: Global, keep: bool) -> Result<(), Fault>
         requires { CanClose (sqlite_state S.honest (state S.Store self.old.conn).now
             self.old.bound.items self.old.scans self.old.staged self.old.next self.old.pulled self.old.faults) keep }
@@ -464,6 +506,13 @@ impl<S: SourceStore + Drop> Wrapper for SqliteWrapper<S> {
             self.old.bound.items self.old.scans self.old.staged self.old.next self.old.pulled self.old.faults) keep fault
             (sqlite_state true (state S.Store self.new.conn).now
             self.new.bound.items self.new.scans self.new.staged self.new.next self.new.pulled self.new.faults)) }
+        ensures reported { S.honest ≡ true → IfErr result (λ fault. IfSome (option_map write_is self.old.staged)
+            (λ w. FailsToWrite S.Store S.honest (layout_at w.table) w.changes self.old.watch self.new.watch
+            self.old.conn self.new.conn fault)) }
+        ensures clean_reported { IsSteady (S.Store.view self.old.conn.store) → IsSteady (S.Store.view self.new.conn.store)
+            → AreWritable self.old.conn.schema → IfErr result (λ fault. IfSome (option_map write_is self.old.staged)
+            (λ w. FailsToWrite S.Store S.honest (layout_at w.table) w.changes self.old.watch self.new.watch
+            self.old.conn self.new.conn fault)) }
         ensures looked { (self.new.conn ≡ self.old.conn) ⊎ Looks self.old.watch self.new.watch true }
         ensures seen { keep ≡ true → OnOk result (Looks self.old.watch self.new.watch true) }
     {
@@ -508,7 +557,19 @@ impl<S: SourceStore + Drop> Wrapper for SqliteWrapper<S> {
 }
 
 impl<S: SourceStore + Drop> Wrapper2 for SqliteWrapper<S> {
-    ghost use Rattle.fdw_api.specs.Prelude.{table_of, Begins, RefusesBegin, all_exact, key_form, wish_form, spec2_of, spec2_by, is_fair, AllowsPromise, CanBegin2};
+    ghost use Rattle.fdw_api.specs.Prelude.{
+      table_of,
+      Begins,
+      RefusesBegin,
+      all_exact,
+      key_form,
+      wish_form,
+      spec2_of,
+      spec2_by,
+      is_fair,
+      AllowsPromise,
+      CanBegin2,
+    };
     ghost use Rattle.sqlite_tables.specs.Steady.{IsSteady};
     ghost use Rattle.sqlite_wrapper.specs.Clean.{AreKnown};
 

@@ -12,11 +12,13 @@ use Rattle.sqlite_wrapper.proofs.lookups.look_in.Goals as goal
 
 pub returns-in_default-clause-answered : goal.returns-in_default-clause-answered
 returns-in_default-clause-answered g c =
-    unanswered g.S.SourceStore.honest c.args.shape.now (entries_of (state g.S.Store c.args.conn.now).now c.args.shape.now) c.args.scan _ c.args.had refl c.requires.had
+    unanswered g.S.SourceStore.honest c.args.shape.now (entries_of (state g.S.Store c.args.conn.now).now c.args.shape.now) c.args.scan _
+    c.args.had refl c.requires.had
 
 pub rows_with-requires-clause-known : goal.rows_with-requires-clause-known
 rows_with-requires-clause-known g c h =
-    known_after (state g.S.Store c.args.conn.now).now (state g.S.Store c.lookup_of.new.conn).now c.args.shape.now (c.lookup_of.ensures.same h) (c.requires.known h)
+    known_after (state g.S.Store c.args.conn.now).now (state g.S.Store c.lookup_of.new.conn).now c.args.shape.now
+    (c.lookup_of.ensures.same h) (c.requires.known h)
 
 pub rows_with-requires-clause-shaped : goal.rows_with-requires-clause-shaped
 rows_with-requires-clause-shaped g c h =
@@ -24,7 +26,8 @@ rows_with-requires-clause-shaped g c h =
 
 pub rows_with-requires-clause-is : goal.rows_with-requires-clause-is
 rows_with-requires-clause-is g c h =
-    subst (λ (d : Database). IsLookup c.args.shape.now (entries_of d c.args.shape.now) c.in-Ok.lookup) (sym (c.lookup_of.ensures.same h)) (c.in-Ok.ensures.is h)
+    subst (λ (d : Database). IsLookup c.args.shape.now (entries_of d c.args.shape.now) c.in-Ok.lookup) (sym (c.lookup_of.ensures.same h))
+    (c.in-Ok.ensures.is h)
 
 pub returns-in-Ok-rows_with-clause-answered : goal.returns-in-Ok-rows_with-clause-answered
 returns-in-Ok-rows_with-clause-answered g c =
@@ -33,14 +36,18 @@ returns-in-Ok-rows_with-clause-answered g c =
     let form = form_of c.in-Some.found in
     let v = datum c.value_at-value.result.now in
     let v_is : v ≡ cell (map datum c.args.scan.params.items) form.parameter = search rules in
-    looked_up c.in-Ok-rows_with.rows (λ p. p.items) g.S.SourceStore.honest l (entries_of db l) c.args.scan c.with_rows.result c.in-Ok.lookup form v c.in-Some.ensures
-    c.with_rows.ensures.shows c.with_rows.ensures.lookup c.in-Ok.ensures.is c.in-Ok.ensures.column v_is c.with_rows.ensures.none c.with_rows.ensures.filled
-    (λ h. subst (λ (d : Database). IfSome c.in-Ok-rows_with.rows (λ p. map (row_in l) p.items ≡ rows_with l c.in-Ok.lookup.column v (entries_of d l))) (c.lookup_of.ensures.same h)
+    looked_up c.in-Ok-rows_with.rows (λ p. p.items) g.S.SourceStore.honest l (entries_of db l) c.args.scan c.with_rows.result
+    c.in-Ok.lookup form v c.in-Some.ensures
+    c.with_rows.ensures.shows c.with_rows.ensures.lookup c.in-Ok.ensures.is c.in-Ok.ensures.column v_is c.with_rows.ensures.none
+    c.with_rows.ensures.filled
+    (λ h. subst (λ (d : Database). IfSome c.in-Ok-rows_with.rows
+    (λ p. map (row_in l) p.items ≡ rows_with l c.in-Ok.lookup.column v (entries_of d l))) (c.lookup_of.ensures.same h)
     (c.in-Ok-rows_with.ensures.rows h))
 
 pub returns-in_default-clause-sure_answered : goal.returns-in_default-clause-sure_answered
 returns-in_default-clause-sure_answered g c h had =
-    unanswered true c.args.shape.now (entries_of (state g.S.Store c.args.conn.now).now c.args.shape.now) c.args.scan _ c.args.had refl (λ yes. had)
+    unanswered true c.args.shape.now (entries_of (state g.S.Store c.args.conn.now).now c.args.shape.now) c.args.scan _ c.args.had refl
+    (λ yes. had)
 
 pub returns-in_default-clause-reads : goal.returns-in_default-clause-reads
 returns-in_default-clause-reads g c = reads_none (state g.S.Store c.args.conn.now) c.args.shape.now
@@ -63,9 +70,12 @@ returns-in-Ok-rows_with-clause-sure_answered g c h had =
     let fixed = sure_same first next h in
     let is = c.in-Ok.ensures.sure_is (sure_first next h) had in
     let there = subst (λ (d : Database). IsLookup l (entries_of d l) c.in-Ok.lookup) (sym fixed) is in
-    looked_up c.in-Ok-rows_with.rows (λ p. p.items) true l (entries_of db l) c.args.scan c.with_rows.result c.in-Ok.lookup form v c.in-Some.ensures
-    c.with_rows.ensures.shows c.with_rows.ensures.lookup (λ yes. is) c.in-Ok.ensures.column v_is c.with_rows.ensures.none c.with_rows.ensures.filled
-    (λ yes. subst (λ (d : Database). IfSome c.in-Ok-rows_with.rows (λ p. map (row_in l) p.items ≡ rows_with l c.in-Ok.lookup.column v (entries_of d l))) fixed
+    looked_up c.in-Ok-rows_with.rows (λ p. p.items) true l (entries_of db l) c.args.scan c.with_rows.result c.in-Ok.lookup form v
+    c.in-Some.ensures
+    c.with_rows.ensures.shows c.with_rows.ensures.lookup (λ yes. is) c.in-Ok.ensures.column v_is c.with_rows.ensures.none
+    c.with_rows.ensures.filled
+    (λ yes. subst (λ (d : Database). IfSome c.in-Ok-rows_with.rows
+    (λ p. map (row_in l) p.items ≡ rows_with l c.in-Ok.lookup.column v (entries_of d l))) fixed
     (c.in-Ok-rows_with.ensures.sure_rows (sure_then first next h) there))
 
 pub returns-in_err-look-clause-reads : goal.returns-in_err-look-clause-reads

@@ -6,7 +6,11 @@ use Rattle.fdw_api.specs.Scan.{spec_of, shown_fits}
 use Rattle.sqlite_tables.specs.Prelude.{kinds_in, layout_at, key_in}
 use Rattle.sqlite_wrapper.proofs.Given.{at_drop, row_same, shut, too_low, too_high}
 use Rattle.sqlite_wrapper.proofs.rows.given_next.Goals as goal
-use Rattle.sqlite_wrapper.proofs.rows.given_next.Goals.{then-not-scan-via-then-not-scan, then-not-scan-via-else-not-scan+then-key-scan, then-not-scan-via-else-not-scan+else-key-scan+then-scan-key}
+use Rattle.sqlite_wrapper.proofs.rows.given_next.Goals.{
+  then-not-scan-via-then-not-scan,
+  then-not-scan-via-else-not-scan+then-key-scan,
+  then-not-scan-via-else-not-scan+else-key-scan+then-scan-key,
+}
 
 pub returns-clause-ok : goal.returns-clause-ok
 returns-clause-ok c =
@@ -19,9 +23,11 @@ returns-clause-ok c =
     let low : s.low ≤ℤ c.in-Ok.read.key = omega (arith, ints) in
     let high : c.in-Ok.read.key ≤ℤ s.high = omega (arith, ints) in
     let number = rw e at c.cast_unsigned.ensures in
-    let row = row_same (spec_of s.spec) (layout_at s.table) r c.in-Ok.read.key c.cast_unsigned.result (tuple c.in-Ok.read.cells) (tuple c.in-Ok-show.cells) c.in-Ok.ensures.key number (rw c.requires.shape at c.in-Ok.ensures.cells) c.in-Ok-show.ensures in
+    let row = row_same (spec_of s.spec) (layout_at s.table) r c.in-Ok.read.key c.cast_unsigned.result (tuple c.in-Ok.read.cells)
+    (tuple c.in-Ok-show.cells) c.in-Ok.ensures.key number (rw c.requires.shape at c.in-Ok.ensures.cells) c.in-Ok-show.ensures in
     let typed = subst (λ (t : Tuple). shown_fits (kinds_in (layout_at s.table)) (spec_of s.spec) t ≡ true) (sym c.in-Ok-show.ensures)
-    (c.rows_are_typed.ensures.shown (kinds_in (layout_at s.table)) (spec_of s.spec) (tuple c.in-Ok.read.cells) (rw c.requires.shape at c.in-Ok.ensures.fits)) in
+    (c.rows_are_typed.ensures.shown (kinds_in (layout_at s.table)) (spec_of s.spec) (tuple c.in-Ok.read.cells)
+    (rw c.requires.shape at c.in-Ok.ensures.fits)) in
     rw e (sym c.is_spent.ensures ∙ c.if-is_spent.false, w.0, c.if-not-scan.false, low, high, (r, w.1, sym c.in-Ok.ensures.key, row), typed)
 
 -- the row was read, and its key may not come

@@ -8,7 +8,8 @@ use Rattle.sqlite_wrapper.proofs.NewSources.{new_source}
 use Rattle.sqlite_wrapper.proofs.wrapper.SqliteWrapper.new.Goals as goal
 
 pub returns-clause-new : goal.returns-clause-new
-returns-clause-new g c = new_source g.S.SourceStore.honest (state g.S.Store c.args.conn).now c.in_ok-bound.bound.items c.new.result (search rules) (λ q. search rules)
+returns-clause-new g c = new_source g.S.SourceStore.honest (state g.S.Store c.args.conn).now c.in_ok-bound.bound.items c.new.result
+    (search rules) (λ q. search rules)
 
 pub invariant_of-result : goal.invariant_of-result
 invariant_of-result g c = record {

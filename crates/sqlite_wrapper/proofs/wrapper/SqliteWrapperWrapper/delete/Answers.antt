@@ -10,11 +10,17 @@ invariant_of-self g c =
       shaped = s.shaped;
       counted = s.counted;
       idle = s.idle;
-      typed_write = typed_after g.S.SourceStore.honest (state g.S.Store s.conn).now s.bound.items s.scans s.staged s.next s.pulled s.faults (Deletes c.args.id.number) c.requires c.add_change.result c.add_change.new.staged s.typed_write c.add_change.ensures.ok c.add_change.ensures.err;
+      typed_write = typed_after g.S.SourceStore.honest (state g.S.Store s.conn).now s.bound.items s.scans s.staged s.next s.pulled
+          s.faults (Deletes c.args.id.number) c.requires c.add_change.result c.add_change.new.staged s.typed_write c.add_change.ensures.ok
+          c.add_change.ensures.err;
       writable = s.writable;
       apart = s.apart;
-      named = named_after g.S.SourceStore.honest (state g.S.Store s.conn).now s.bound.items s.scans s.staged s.next s.pulled s.faults (Deletes c.args.id.number) c.requires c.first_changes_name_once.ensures.more c.add_change.result c.add_change.new.staged s.named c.add_change.ensures.ok c.add_change.ensures.err;
-      there = there_more g.S.SourceStore.honest (state g.S.Store s.conn).now s.bound.items s.scans s.staged s.next s.pulled s.faults (Deletes c.args.id.number) c.requires s.counted c.add_change.result c.add_change.new.staged s.there c.add_change.ensures.ok c.add_change.ensures.err;
+      named = named_after g.S.SourceStore.honest (state g.S.Store s.conn).now s.bound.items s.scans s.staged s.next s.pulled s.faults
+          (Deletes c.args.id.number) c.requires c.first_changes_name_once.ensures.more c.add_change.result c.add_change.new.staged s.named
+          c.add_change.ensures.ok c.add_change.ensures.err;
+      there = there_more g.S.SourceStore.honest (state g.S.Store s.conn).now s.bound.items s.scans s.staged s.next s.pulled s.faults
+          (Deletes c.args.id.number) c.requires s.counted c.add_change.result c.add_change.new.staged s.there c.add_change.ensures.ok
+          c.add_change.ensures.err;
       counts = s.counts;
       few = s.few;
       allowed = s.allowed;

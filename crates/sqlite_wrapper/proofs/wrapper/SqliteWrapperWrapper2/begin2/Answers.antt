@@ -17,7 +17,8 @@ start-requires-clause-allowed g c =
     let s = c.args.self.now in
     let t = c.args.t.number in
     let spec = c.args.spec.now in
-    subst (λ (z : Spec). allows z ≡ true) (sym (promised_is spec c.in_ok-order.order.items c.promised_limit-limit.result c.in_ok-order.ensures c.promised_limit-limit.ensures))
+    subst (λ (z : Spec). allows z ≡ true) (sym (promised_is spec c.in_ok-order.order.items c.promised_limit-limit.result
+    c.in_ok-order.ensures c.promised_limit-limit.ensures))
     (bound_allows (slice_index_or s.bound.items t false) t c.requires.bound (spec2_of spec) c.requires.is c.requires.allowed)
 
 pub start-requires-clause-typed : goal.start-requires-clause-typed
@@ -35,7 +36,8 @@ returns-clause-ok g c =
     let honest = g.S.SourceStore.honest in
     if_ok _ _ c.start.result
     (λ ticket b. subst
-    (λ (z : Spec). Begins (sqlite_state honest (state g.S.Store s.conn).now s.bound.items s.scans s.staged s.next s.pulled s.faults) c.args.t.number z (map datum c.args.params.now) ticket.number
+    (λ (z : Spec). Begins (sqlite_state honest (state g.S.Store s.conn).now s.bound.items s.scans s.staged s.next s.pulled s.faults)
+    c.args.t.number z (map datum c.args.params.now) ticket.number
     (sqlite_state honest (state g.S.Store n.conn).now n.bound.items n.scans n.staged n.next n.pulled n.faults))
     (promised_is spec c.in_ok-order.order.items c.promised_limit-limit.result c.in_ok-order.ensures c.promised_limit-limit.ensures) b)
     c.start.ensures.ok
@@ -47,7 +49,8 @@ returns-clause-clean_ok g c steady known =
     let spec = c.args.spec.now in
     if_ok _ _ c.start.result
     (λ ticket b. subst
-    (λ (z : Spec). Begins (sqlite_state true (state g.S.Store s.conn).now s.bound.items s.scans s.staged s.next s.pulled s.faults) c.args.t.number z (map datum c.args.params.now) ticket.number
+    (λ (z : Spec). Begins (sqlite_state true (state g.S.Store s.conn).now s.bound.items s.scans s.staged s.next s.pulled s.faults)
+    c.args.t.number z (map datum c.args.params.now) ticket.number
     (sqlite_state true (state g.S.Store n.conn).now n.bound.items n.scans n.staged n.next n.pulled n.faults))
     (promised_is spec c.in_ok-order.order.items c.promised_limit-limit.result c.in_ok-order.ensures c.promised_limit-limit.ensures) b)
     (c.start.ensures.clean_ok steady known)
