@@ -1,6 +1,9 @@
 //! An engine between a reader and a writer, which is kept.
+ghost use Rattle.std.specs.Prelude.{[]};
+ghost use Rattle.session_wire.specs.Engines.{EngineSteps, EngineEnds};
 ghost use Rattle.fed_stream.specs.Known.{Known};
 ghost use Rattle.fed_stream.specs.Calls.{ReadsStream, WritesStream};
+ghost use Rattle.fed_stream.specs.Prompt.{Prompt, moment, seen};
 ghost use Rattle.fed_stream.specs.Streams.{stream};
 ghost use Rattle.fed_cli.specs.Kept.{KeepsServed};
 ghost use Rattle.med_session.specs.Prelude.{IsSound, Agrees, shown, World};
@@ -18,7 +21,8 @@ use std::alloc::Global;
 ///
 /// For each world that agrees with the engine, the bytes that were read lead by a run of the SQL meaning to the text that was written,
 /// and to a world that, with its sessions ended, agrees with the engine that is handed back. `NoRoom` comes also where there is no room
-/// for a server: then nothing was read. Of the calls of a source and a sink that tell them it says what `serve_stream` does.
+/// for a server: then nothing was read. Of the calls of a source and a sink that report them, and of what is answered at each read, it
+/// says what `serve_stream` does.
 pub fn serve_kept<B: Wrapper2, R: Source, W: Sink>(
     alloc: Global,
     engine: Engine<B>,
@@ -33,6 +37,9 @@ pub fn serve_kept<B: Wrapper2, R: Source, W: Sink>(
     ensures sound { IsSound (shown B.meaning result.1) }
     ensures reads { Known (R.inlet reader.old) (R.inlet reader.new) (λ old new. ReadsStream old new result.0) }
     ensures writes { Known (W.outlet writer.old) (W.outlet writer.new) (λ old new. WritesStream old new result.0) }
+    ensures prompt { (last : Engine B) × Prompt (EngineSteps B.meaning) (EngineEnds B.meaning)
+        (seen R.remaining R.inlet W.contents W.outlet) (moment engine [] reader.old writer.old)
+        (moment last [] reader.new writer.new) result.0 }
 {
     served_worlds_follow::<B>();
     let mut server = match Server::new(alloc, engine) {

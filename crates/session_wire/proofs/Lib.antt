@@ -14,3 +14,4 @@ mod Faring
 mod Joined
 mod Opened
 mod Leased
+mod Refused

@@ -1,27 +1,33 @@
 -- Runs that go on by one line, or by another piece.
-use Rattle.std.proofs.Common.{◌≡◌, ℕ, List, [], ◌++◌, refl, sym, ap, ◌∙◌, subst, append_assoc, append-nil, inl, inr, Option, Some, None, Result, Ok, Err, OnErr}
+use Rattle.std.proofs.Common.{◌≡◌, ◌⊎◌, ℕ, List, [], ◌++◌, refl, sym, ap, ◌∙◌, subst, append_assoc, append-nil, inl, inr}
+use Rattle.std.proofs.Common.{Option, Some, None, Result, Ok, Err, OnErr}
 use Rattle.tokio_util.specs.declared.codec.lines_codec.LinesCodec.{LinesCodec}
 use Rattle.session_wire.specs.Finds.{IsReady}
 use Rattle.med_value.specs.Limits.{line_limit}
 use Rattle.session_wire.specs.Lines.{unread_after, Lines, line, rest, closed, go_on, lines_of}
 use Rattle.session_wire.proofs.Pieces.{lines-append}
-use Rattle.session_wire.specs.Run.{Steps, IsAnswered, Run, RunFront, Fed, BrokenOff}
+use Rattle.session_wire.specs.Run.{Steps, IsAnswered, Run, RunFront, RunUpTo, IsNext, Fed, BrokenOff, RefusesNext}
 use Rattle.session_wire.specs.Replies.{closing_replies}
 
 -- the lines so far lead from old to now and to these replies, and these lines are left
 pub record SoFar {W : Type 0} (step : Steps W) (ended : W → W → Type 0) (old : W) (lines : Lines) (now : W) (left : Lines) (replies : List ℕ) : Type 0 where
   pub run : (others : List ℕ) (new : W) → Run step ended now left others new → Run step ended old lines (replies ++ others) new
   pub front : (others : List ℕ) (new : W) → RunFront step now left others new → RunFront step old lines (replies ++ others) new
+  pub upto : (others : List ℕ) (new : W) (last : Lines) → RunUpTo step now left others new last
+      → RunUpTo step old lines (replies ++ others) new last
   pub unread : unread_after lines ≡ unread_after left
 
 pub so_far_none : {W : Type 0} (step : Steps W) (ended : W → W → Type 0) (old : W) (lines : Lines) → SoFar step ended old lines old lines []
-so_far_none step ended old lines = record { run = λ others new r. r; front = λ others new r. r; unread = refl }
+so_far_none step ended old lines =
+    record { run = λ others new r. r; front = λ others new r. r; upto = λ others new last r. r; unread = refl }
 
 pub so_far_more : {W : Type 0} (step : Steps W) (ended : W → W → Type 0) (old : W) (lines : Lines) (now : W) (text : List ℕ) (more : Lines) (replies reply : List ℕ) (mid : W)
     → SoFar step ended old lines now (line text more) replies → IsAnswered step now text reply mid → SoFar step ended old lines mid more (replies ++ reply)
 so_far_more step ended old lines now text more replies reply mid h a = record {
   run = λ others new r. subst (λ l. Run step ended old lines l new) (sym (append_assoc replies reply others)) (h.run (reply ++ others) new (reply, others, mid, a, r, refl));
   front = λ others new r. subst (λ l. RunFront step old lines l new) (sym (append_assoc replies reply others)) (h.front (reply ++ others) new (inr (reply, others, mid, a, r, refl)));
+  upto = λ others new last r. subst (λ l. RunUpTo step old lines l new last) (sym (append_assoc replies reply others))
+      (h.upto (reply ++ others) new last (inr (reply, others, mid, a, r, refl)));
   unread = h.unread;
 }
 
@@ -33,6 +39,36 @@ front_stops step now closed = (refl, refl)
 
 pub so_far_stops : {W : Type 0} (step : Steps W) (ended : W → W → Type 0) (old : W) (lines : Lines) (now : W) (left : Lines) (replies : List ℕ) → SoFar step ended old lines now left replies → RunFront step old lines replies now
 so_far_stops step ended old lines now left replies h = subst (λ l. RunFront step old lines l now) (append-nil replies) (h.front [] now (front_stops step now left))
+
+none_upto : {W : Type 0} (step : Steps W) (now : W) (left : Lines) → RunUpTo step now left [] now left
+none_upto step now (line text more) = inl (refl, refl, refl)
+none_upto step now (rest after) = (refl, refl, refl)
+none_upto step now closed = (refl, refl, refl)
+
+so_far_upto : {W : Type 0} (step : Steps W) (ended : W → W → Type 0) (old : W) (lines : Lines) (now : W) (left : Lines) (replies : List ℕ)
+    → SoFar step ended old lines now left replies → RunUpTo step old lines replies now left
+so_far_upto step ended old lines now left replies h =
+    subst (λ l. RunUpTo step old lines l now left) (append-nil replies) (h.upto [] now left (none_upto step now left))
+
+-- a line is next, and room was refused for it
+pub next_refused : {T E W : Type 0} (r : Result T E) (step : Steps W) (ended : W → W → Type 0) (old : W) (lines : Lines) (now new : W)
+    (left next : Lines) (before after replies : List ℕ)
+    → left ≡ next → IsNext next → new ≡ now → after ≡ before ++ replies → SoFar step ended old lines now left replies
+    → OnErr r ((text : List ℕ) × (after ≡ before ++ text) × ((l : Lines) × RunUpTo step old lines text new l × IsNext l))
+next_refused (Ok x) step ended old lines now new left next before after replies e n same w h = tt
+next_refused (Err x) step ended old lines now new left next before after replies e n same w h =
+    let answered = so_far_upto step ended old lines now left replies h in
+    (replies, w, (left, subst (λ v. RunUpTo step old lines replies v left) (sym same) answered, subst IsNext (sym e) n))
+
+-- room was refused for the bytes held back, or for the next line, and then every session was ended
+pub refused_next : {W X : Type 0} (step : Steps W) (ended : W → W → Type 0) (old : W) (bytes before after : List ℕ) (last new : W)
+    → ((X × (after ≡ before) × (last ≡ old))
+    ⊎ ((text : List ℕ) × (after ≡ before ++ text) × ((left : Lines) × RunUpTo step old (lines_of bytes) text last left × IsNext left)))
+    → ended last new
+    → (X × (after ≡ before) × ended old new) ⊎ ((text : List ℕ) × (after ≡ before ++ text) × RefusesNext step ended old bytes text new)
+refused_next step ended old bytes before after last new (inl h) e = inl (h.0, h.1, subst (λ w. ended w new) h.2 e)
+refused_next step ended old bytes before after last new (inr h) e =
+    inr (h.0, h.1, record { last = last; left = h.2.0; answered = h.2.1; next = h.2.2; sessions = e })
 
 pub so_far_rest : {W : Type 0} (step : Steps W) (ended : W → W → Type 0) (old : W) (lines : Lines) (now : W) (left : Lines) (after : List ℕ) (replies : List ℕ) → left ≡ rest after → SoFar step ended old lines now left replies → Run step ended old lines replies now
 so_far_rest step ended old lines now left after replies e h =

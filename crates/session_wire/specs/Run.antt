@@ -1,5 +1,5 @@
 -- What is answered to the lines of a stream.
-use Rattle.std.specs.Prelude.{◌≡◌, ℕ, suc, ◌⊎◌, Option, List, [], ◌++◌}
+use Rattle.std.specs.Prelude.{◌≡◌, ⊤, ℕ, suc, ◌⊎◌, Option, List, [], ◌++◌}
 use Rattle.med_session.specs.Requests.{AskedLine}
 use Rattle.session_wire.specs.Lines.{Lines, line, rest, closed, lines_of, unread_after}
 use Rattle.session_wire.specs.Frames.{IsFrame, IsReplySid}
@@ -35,6 +35,22 @@ RunFront {W} step old (line text more) replies new =
 RunFront step old (rest after) replies new = (replies ≡ []) × (new ≡ old)
 RunFront step old closed replies new = (replies ≡ []) × (new ≡ old)
 
+-- some of the lines, from the first on, do, none of them a closing one, and these lines are left
+abbrev pub RunUpTo : {W : Type 0} → Steps W → W → Lines → List ℕ → W → Lines → Type 0
+RunUpTo {W} step old (line text more) replies new left =
+    ((replies ≡ []) × (new ≡ old) × (left ≡ line text more))
+    ⊎ ((reply : List ℕ) × (others : List ℕ) × (mid : W) × IsAnswered step old text reply mid
+    × RunUpTo step mid more others new left × (replies ≡ reply ++ others))
+RunUpTo step old (rest after) replies new left = (replies ≡ []) × (new ≡ old) × (left ≡ rest after)
+RunUpTo step old closed replies new left = (replies ≡ []) × (new ≡ old) × (left ≡ closed)
+
+-- a line is next: a whole one, for whose text the codec takes memory, and for whose reply the output has to have room; or one that closes
+-- the stream, whose replies need room in the output
+abbrev pub IsNext : Lines → Type 0
+IsNext (line text more) = ⊤
+IsNext (rest after) = ⊥
+IsNext closed = ⊤
+
 -- These bytes are answered by the text of a run of their lines, which leads from old to new, and these
 -- bytes are left unread, or the stream is closed.
 pub record Fed {W : Type 0} (step : Steps W) (ended : W → W → Type 0) (old : W) (bytes text : List ℕ) (new : W)
@@ -46,6 +62,14 @@ pub record Fed {W : Type 0} (step : Steps W) (ended : W → W → Type 0) (old :
 pub record BrokenOff {W : Type 0} (step : Steps W) (ended : W → W → Type 0) (old : W) (bytes text : List ℕ) (new : W) : Type 0 where
   pub last : W
   pub front : RunFront step old (lines_of bytes) text last
+  pub sessions : ended last new
+
+-- Room was refused for the next line: those before it were answered by this text, and then every session was ended.
+pub record RefusesNext {W : Type 0} (step : Steps W) (ended : W → W → Type 0) (old : W) (bytes text : List ℕ) (new : W) : Type 0 where
+  pub last : W
+  pub left : Lines
+  pub answered : RunUpTo step old (lines_of bytes) text last left
+  pub next : IsNext left
   pub sessions : ended last new
 
 -- how many lines there are

@@ -1,7 +1,7 @@
 // What a piece of a stream is answered.
-ghost use Rattle.std.specs.Prelude.{◌≡◌, ◌++◌, ◌<◌, ℕ, List, length, IfOk, OnOk, OnErr};
-ghost use Rattle.session_wire.specs.Lines.{IsFrontOfLine, lines_of};
-ghost use Rattle.session_wire.specs.Run.{IsAnswered, Run, RunFront};
+ghost use Rattle.std.specs.Prelude.{◌≡◌, ◌++◌, ◌+◌, ◌<◌, ◌⊎◌, ℕ, List, length, IfOk, OnOk, OnErr, vec_len, vec_capacity};
+ghost use Rattle.session_wire.specs.Lines.{IsFrontOfLine, Lines, lines_of};
+ghost use Rattle.session_wire.specs.Run.{IsAnswered, IsNext, Run, RunFront, RunUpTo};
 ghost use Rattle.session_wire.specs.Ends.{Leaves};
 
 use crate::frames::frame;
@@ -36,6 +36,9 @@ pub(crate) fn answer_piece<H: Handler>(
     ensures err { OnErr result ((text : List ℕ) × (out.new.items ≡ out.old.items ++ text)
         × RunFront H.step handler.old (lines_of (unread.old.items ++ piece.now)) text handler.new) }
     ensures room { OnErr result (IsFrontOfLine (unread.old.items ++ piece.now) → unread.old.spare < length piece.now) }
+    ensures cause { OnErr result (((unread.old.spare < length piece.now) × (out.new.items ≡ out.old.items) × (handler.new ≡ handler.old))
+        ⊎ ((text : List ℕ) × (out.new.items ≡ out.old.items ++ text)
+        × ((left : Lines) × RunUpTo H.step handler.old (lines_of (unread.old.items ++ piece.now)) text handler.new left × IsNext left))) }
     ensures sound { H.sound handler.new }
 {
     // Bytes that end no line are not searched again when more come.
@@ -61,6 +64,8 @@ fn answer_lines<H: Handler>(
         × Leaves end (lines_of unread.old.items) unread.new.items) }
     ensures err { OnErr result ((text : List ℕ) × (out.new.items ≡ out.old.items ++ text)
         × RunFront H.step handler.old (lines_of unread.old.items) text handler.new) }
+    ensures cause { OnErr result ((text : List ℕ) × (out.new.items ≡ out.old.items ++ text)
+        × ((left : Lines) × RunUpTo H.step handler.old (lines_of unread.old.items) text handler.new left × IsNext left)) }
     ensures sound { H.sound handler.new }
 {
     let mut codec = new_codec();
@@ -86,6 +91,7 @@ fn answer_line<H: Handler>(handler: &mut H, line: &str, out: &mut Vec<u8>) -> Re
     ensures ok { OnOk result ((reply : List ℕ) × (out.new.items ≡ out.old.items ++ reply)
         × IsAnswered H.step handler.old line.now reply handler.new) }
     ensures refused { OnErr result ((handler.new ≡ handler.old) × (out.new.items ≡ out.old.items)) }
+    ensures full { OnErr result (vec_capacity out.old < vec_len out.old + 128) }
     ensures sound { H.sound handler.new }
 {
     match frame(line) {

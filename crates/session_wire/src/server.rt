@@ -1,7 +1,7 @@
 //! A stream of request lines before a handler.
 ghost use Rattle.std.specs.Prelude.{◌≡◌, ◌++◌, ℕ, List, [], Option, Some, None, false};
 ghost use Rattle.session_wire.specs.Lines.{IsFrontOfLine, lines_of, unread_after};
-ghost use Rattle.session_wire.specs.Run.{Fed, BrokenOff};
+ghost use Rattle.session_wire.specs.Run.{Fed, BrokenOff, RefusesNext};
 
 use crate::answers::{End, answer_piece};
 use crate::handler::Handler;
@@ -35,7 +35,7 @@ pub struct Server<H> {
 }
 
 impl<H: Handler> Server<H> {
-    ghost use Rattle.std.specs.Prelude.{◌↔◌, ◌<◌, true, Err, length, IfOk, IfErr, OnOk};
+    ghost use Rattle.std.specs.Prelude.{◌↔◌, ◌<◌, ◌⊎◌, true, Err, length, IfOk, IfErr, OnOk};
     ghost use Rattle.session_wire.specs.Servers.{handler_of, is_closed, held_back, spare_of, unread_of};
 
     /// A server at the start of a stream. Refused for want of memory, it hands the handler back.
@@ -70,8 +70,10 @@ impl<H: Handler> Server<H> {
     ///
     /// `NoRoom` where room was refused, for the bytes held back, for a line's text or by the handler: the
     /// lines answered before were a run, then the sessions were ended, and the stream is closed. A piece
-    /// that ends no line is refused only where the room for the bytes held back was less than it. `Closed`
-    /// where the stream was closed before: nothing changes.
+    /// that ends no line is refused only where the room for the bytes held back was less than it. The clause
+    /// `cause` says which room was refused: that for the bytes held back, which was less than the piece, and then
+    /// no line was answered; or else that a line is next, a whole one or one that closes the stream. `Closed` where
+    /// the stream was closed before: nothing changes.
     pub fn feed(&mut self, piece: &[u8], out: &mut Vec<u8>) -> Result<(), FeedFault>
         requires { H.sound (handler_of self.old) }
         ensures ok { OnOk result ((is_closed self.old ≡ false)
@@ -84,6 +86,12 @@ impl<H: Handler> Server<H> {
             (handler_of self.new)) }
         ensures room { result ≡ Err FeedFault.NoRoom → IsFrontOfLine (held_back self.old ++ piece.now)
             → spare_of self.old < length piece.now }
+        ensures cause { result ≡ Err FeedFault.NoRoom
+            → ((spare_of self.old < length piece.now) × (out.new.items ≡ out.old.items)
+            × H.ended (handler_of self.old) (handler_of self.new))
+            ⊎ ((text : List ℕ) × (out.new.items ≡ out.old.items ++ text)
+            × RefusesNext H.step H.ended (handler_of self.old) (held_back self.old ++ piece.now) text
+            (handler_of self.new)) }
         ensures closed { (result ≡ Err FeedFault.Closed) ↔ (is_closed self.old ≡ true) }
         ensures unchanged { result ≡ Err FeedFault.Closed
             → (handler_of self.new ≡ handler_of self.old) × (is_closed self.new ≡ true)

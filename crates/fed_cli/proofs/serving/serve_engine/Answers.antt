@@ -1,7 +1,7 @@
 use Rattle.std.proofs.Common.{[]}
 use Rattle.session_wire.specs.Servers.{handler_of, unread_of}
 use Rattle.fed_stream.specs.Streams.{stream}
-use Rattle.fed_cli.proofs.Called.{nothing_read, nothing_called}
+use Rattle.fed_cli.proofs.Called.{nothing_read, nothing_called, prompt_server, prompt_none}
 use Rattle.fed_cli.proofs.ServedEngines.{open_server, serves_world, no_server}
 use Rattle.fed_cli.proofs.serving.serve_engine.Goals as goal
 
@@ -27,3 +27,13 @@ returns-in-Err-clause-writes g c = nothing_called _
 
 pub returns-clause-reads : goal.returns-clause-reads
 returns-clause-reads g c = c.serve_stream-ended.ensures.reads (open_server c.in-Ok.server [] c.in-Ok.ensures.ok.1).0
+
+-- what was answered at each read
+pub returns-in-Err-clause-prompt : goal.returns-in-Err-clause-prompt
+returns-in-Err-clause-prompt g c = prompt_none _ _ _ _ _ _
+
+pub returns-clause-prompt : goal.returns-clause-prompt
+returns-clause-prompt g c =
+    let opened = open_server c.in-Ok.server [] c.in-Ok.ensures.ok.1 in
+    prompt_server _ _ _ c.in-Ok.server c.serve_stream-ended.new.server _ _ _ _ _ _ c.in-Ok.ensures.ok.0 opened.1
+    (c.serve_stream-ended.ensures.prompt opened.0)

@@ -1,8 +1,8 @@
-use Rattle.std.proofs.Common.{◌≡◌, suc, Some, string_bytes, [], ◌++◌, sym, ap, ◌∙◌, subst, append_assoc, append-nil, arith}
+use Rattle.std.proofs.Common.{◌≡◌, suc, Some, Err, refl, string_bytes, [], ◌++◌, sym, ap, ◌∙◌, subst, append_assoc, append-nil, arith}
 use Rattle.session_wire.specs.Lines.{unread_after, lines_of}
 use Rattle.session_wire.specs.Run.{RunFront, IsAnswered, line_count}
 use Rattle.session_wire.specs.Replies.{closing_replies}
-use Rattle.session_wire.proofs.Runs.{SoFar, so_far_none, so_far_more, so_far_stops, so_far_rest, so_far_closed, on_stop}
+use Rattle.session_wire.proofs.Runs.{SoFar, so_far_none, so_far_more, so_far_stops, so_far_rest, so_far_closed, on_stop, next_refused}
 use Rattle.session_wire.proofs.answers.answer_lines.Goals as goal
 
 pub loop-found-init : goal.loop-found-init
@@ -27,6 +27,27 @@ returns-in_err-answer_line-in-Line-clause-err g c =
     let same = c.in_err-answer_line-in-Line.ensures.refused in
     let kept = c.loop-found.invariant in
     on_stop _ _ _ _ _ _ _ kept.replies (same.1 ∙ kept.written) (subst (λ w. RunFront g.H.Handler.step c.args.handler.now (lines_of c.args.unread.now.items) kept.replies w) (sym same.0) (so_far_stops _ _ _ _ _ _ _ kept.so_far))
+
+-- room was refused for the next line
+pub returns-in_default-clause-cause : goal.returns-in_default-clause-cause
+returns-in_default-clause-cause g c =
+    let kept = c.loop-found.invariant in
+    let has = c.in_default.ensures.memory in
+    next_refused {T = Unit {0}} {E = Unit {0}} (Err tt) _ _ _ _ _ _ _ _ _ _ kept.replies has.2 tt refl kept.written kept.so_far
+
+pub returns-in_err-answer_line-in-Line-clause-cause : goal.returns-in_err-answer_line-in-Line-clause-cause
+returns-in_err-answer_line-in-Line-clause-cause g c =
+    let found = rw c.in-Line.is at c.in-Ok.ensures.found in
+    let same = c.in_err-answer_line-in-Line.ensures.refused in
+    let kept = c.loop-found.invariant in
+    next_refused _ _ _ _ _ _ _ _ _ _ _ kept.replies found.0 tt same.0 (same.1 ∙ kept.written) kept.so_far
+
+pub returns-in_err-write_closing-in-Closing-clause-cause : goal.returns-in_err-write_closing-in-Closing-clause-cause
+returns-in_err-write_closing-in-Closing-clause-cause g c =
+    let found = rw c.in-Closing.is at c.in-Ok.ensures.found in
+    let kept = c.loop-found.invariant in
+    let same = c.in_err-write_closing-in-Closing.ensures.refused in
+    next_refused _ _ _ _ _ _ _ _ _ _ _ kept.replies found tt refl (same ∙ kept.written) kept.so_far
 
 pub loop-found-smaller : goal.loop-found-smaller
 loop-found-smaller g c =

@@ -1,7 +1,9 @@
-use Rattle.std.proofs.Common.{◌≡◌, ◌-◌, ◌≤◌, [], ◌++◌, Bool, false, true, not, ◌<◌, length, Some, refl, sym, ap, ◌∙◌, append-nil, arith, Result, Ok, Err, OnErr}
+use Rattle.std.proofs.Common.{◌≡◌, ◌-◌, ◌≤◌, ℕ, List, [], ◌++◌, Bool, false, true, not, ◌<◌, length, Some, refl, sym, ap, ◌∙◌, append-nil}
+use Rattle.std.proofs.Common.{arith, Result, Ok, Err, OnErr, inl, inr, subst}
 use Rattle.std.proofs.lemmas.Bool.{leb-true, not-true}
 use Rattle.med_value.specs.Limits.{line_limit}
-use Rattle.session_wire.specs.Lines.{IsFrontOfLine, unread_after}
+use Rattle.session_wire.specs.Lines.{IsFrontOfLine, Lines, lines_of, unread_after}
+use Rattle.session_wire.specs.Run.{RunUpTo}
 use Rattle.session_wire.proofs.FrontOfLine.{front-append, front_is_rest, no_front}
 use Rattle.session_wire.proofs.Runs.{front_stops}
 use Rattle.session_wire.proofs.answers.answer_piece.Goals.{then-piece-len, else-piece-len}
@@ -47,3 +49,20 @@ returns-clause-room g c =
           omega arith
     ] in
     absurd bad)
+
+then_err : {T E : Type 0} (r : Result T E) (P Q : Type 0) → (P → Q) → OnErr r P → OnErr r Q
+then_err (Ok x) P Q f p = tt
+then_err (Err e) P Q f p = f p
+
+-- the room for the bytes held back was less than the piece
+pub returns-then-is_err-clause-cause : goal.returns-then-is_err-clause-cause
+returns-then-is_err-clause-cause g c = inl (grind arith, refl, refl)
+
+-- room was refused for the next line
+pub returns-clause-cause : goal.returns-clause-cause
+returns-clause-cause g c =
+    let added : c.extend_from_slice.new.self.items ≡ c.args.unread.now.items ++ c.args.piece.now = grind arith in
+    let up_to : (bs text : List ℕ) (left : Lines) → Type 0 =
+    λ bs text left. RunUpTo g.H.Handler.step c.args.handler.now (lines_of bs) text c.answer_lines.new.handler left in
+    then_err c.answer_lines.result _ _ (λ h. inr (h.0, h.1, (h.2.0, subst (λ bs. up_to bs h.0 h.2.0) added h.2.1, h.2.2)))
+    c.answer_lines.ensures.cause
