@@ -2,8 +2,8 @@
 
 ghost use Rattle.bound_order.specs.Ordered.{OrderStaysBound};
 
-/// A query that counts its entries, reads columns that are in view and compares columns of one type does so in that order, over entries of
-/// which each has its new number.
+/// Take a query that counts its entries, reads columns that are in view, and compares columns of one type. In that order it does so too,
+/// over entries that each have their new number.
 pub fn order_stays_bound()
     ensures { OrderStaysBound }
 {}

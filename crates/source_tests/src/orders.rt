@@ -97,7 +97,7 @@ pub fn write_keys<W: Wrapper>(
     source.end_modify(alloc, true)
 }
 
-// A new database in memory, each statement of which may take so many steps.
+// Returns a new database in memory, whose statements may each take `limit` steps, or any number where there is none.
 fn limited_database(alloc: Global, limit: Option<u64>) -> Result<Connection<MemStore>, Error>
     ensures writable { (table : ℕ) → IfOk result (λ conn. ∥ IsWritable conn.schema (layout_at table) ∥₁) }
     ensures apart { IfOk result (λ conn. AreApart conn.schema) }
@@ -108,7 +108,7 @@ fn limited_database(alloc: Global, limit: Option<u64>) -> Result<Connection<MemS
     Ok(conn)
 }
 
-/// A new database in memory as a source, each statement of which may take so many steps.
+/// Returns a new database in memory as a source, whose statements may each take `limit` steps, or any number where there is none.
 pub fn new_source(alloc: Global, limit: Option<u64>) -> Result<SqliteWrapper<MemStore>, Fail>
     ensures { IfOk result (λ w. IsIdle
         (sqlite_state true (state over_memory w.conn).now w.bound.items w.scans w.staged w.next w.pulled w.faults)) }

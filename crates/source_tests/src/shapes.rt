@@ -5,7 +5,7 @@ use sqlite_looks::{ReadOnly, Shape, Texts, look_at, shape_at, shape_called, tabl
 use std::alloc::{AllocError, Global};
 use std::test::Fail;
 
-// The shape of a table by its stored name, of which the first column is wanted.
+// Returns the shape of a table by its stored name, where its first column is wanted.
 fn shape_named(
     alloc: Global,
     conn: &Connection<MemStore>,
