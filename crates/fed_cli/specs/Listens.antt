@@ -2,7 +2,7 @@
 use Rattle.std.specs.Prelude.{◌≡◌, ◌<◌, ◌≤◌, ℕ, Bool, true, false, List, [], ◌∷◌, ◌++◌, length, codes, decimal, Option, Result, Ok, Err, OnOk, All}
 use Rattle.std.specs.Io.KnownBytes.{Appends}
 use Rattle.std.specs.Net.Addr.{ipv4_octets}
-use Rattle.std.specs.Net.Socket.{socket_ip}
+use Rattle.std.specs.Net.Socket.{socket_ip, socket_port}
 use Rattle.std.specs.declared.net.ip_addr.IpAddr.TheVariants.{V4}
 use Rattle.std.specs.declared.net.ipv4_addr.Ipv4Addr.{Ipv4Addr}
 use Rattle.std.specs.declared.net.socket_addr.SocketAddr.{SocketAddr}
@@ -22,6 +22,10 @@ use Rattle.fed_cli.specs.declared.listening.ListenFault.TheVariants as faults
 -- the address is 127.0.0.1: this machine alone can connect to it
 abbrev pub IsLocal : SocketAddr → Type 0
 IsLocal address = (ip : Ipv4Addr) × (socket_ip address ≡ V4 ip) × (ipv4_octets ip ≡ 127 ∷ 0 ∷ 0 ∷ 1 ∷ [])
+
+-- this listener takes the connections to this port of 127.0.0.1
+abbrev pub IsAtPort : {L : Type 0} → (L → SocketAddr → Type 0) → ℕ → L → Type 0
+IsAtPort listens_at port listener = (address : SocketAddr) × IsLocal address × (socket_port address ≡ port) × listens_at listener address
 
 -- the text of a fault
 abbrev pub listen_text : ListenFault → List ℕ

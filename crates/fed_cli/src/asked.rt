@@ -6,6 +6,7 @@ ghost use Rattle.fed_stream.specs.Streams.{stream};
 ghost use Rattle.fed_cli.specs.Told.{run_status};
 ghost use Rattle.fed_cli.specs.ProgramExits.{Exits, ExitsBy, ServesAsked, WritesListened, listen_status};
 
+use crate::listening::Ports;
 use crate::program::run_asked;
 use crate::telling::{tell_run, tell_words};
 use crate::told::status;
@@ -17,7 +18,6 @@ use fed_words::words::{AskedRun, Service, read_words};
 use itoa::Buffer;
 use med_session::Sources;
 use std::io::{Read, Write};
-use std::net::Net;
 use std::time::Clock;
 
 /// How the program exits.
@@ -78,7 +78,7 @@ fn not_begun<'a, W: Drop, E: Sink>(refused: NotBegun<'a>, errors: &mut E) -> Exi
 /// `listen_and_serve` does. If not all were served, one line on the second output says why.
 ///
 /// Where it does not begin, nothing is listened to and nothing is written to the first output.
-pub fn serve_asked<V: AllocGlobal + Surroundings + Net + Clock, O: Write, E: Write>(
+pub fn serve_asked<V: AllocGlobal + Surroundings + Ports + Clock, O: Write, E: Write>(
     rt: &V,
     asked: AskedRun<'_>,
     port: u16,
@@ -108,7 +108,7 @@ pub fn serve_asked<V: AllocGlobal + Surroundings + Net + Clock, O: Write, E: Wri
 
 /// Does what the program's words ask: it answers an input on an output, or connections to a port, or prints help on the output, and tells
 /// on a second output how it failed.
-pub fn run_words<V: AllocGlobal + Surroundings + Net + Clock, I: Read, O: Write, E: Write>(
+pub fn run_words<V: AllocGlobal + Surroundings + Ports + Clock, I: Read, O: Write, E: Write>(
     rt: &V,
     words: &[String],
     input: &mut I,
@@ -162,7 +162,7 @@ pub enum ArgsFault {
 
 /// Runs the program with these words, and gives its exit status: 0 where the input ended or the help that was asked was written, 2 where
 /// the words are refused, and 1 else, with one line on standard error, but for help that could not be written.
-pub fn run<V: AllocGlobal + Surroundings + Net + Clock, I: Read, O: Write, E: Write>(
+pub fn run<V: AllocGlobal + Surroundings + Ports + Clock, I: Read, O: Write, E: Write>(
     rt: &V,
     words: Result<Vec<String>, ArgsFault>,
     input: &mut I,

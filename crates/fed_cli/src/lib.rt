@@ -18,5 +18,5 @@ pub mod worlds;
 pub use asked::{ArgsFault, Exit, run, run_words, serve_asked};
 pub use fed_stream::{Ended, StreamFault, serve_stream, serve_stream_within};
 pub use kept::serve_kept;
-pub use listening::{ListenFault, Listening, listen_and_serve};
+pub use listening::{ListenFault, Listening, Ports, listen_and_serve};
 pub use turns::{AcceptFault, Connections, Kept, serve_connections};

@@ -1,12 +1,13 @@
 //! Connections over TCP.
-ghost use Rattle.std.specs.Prelude.{◌≡◌, ◌<◌, Err, IfErr, is_ok};
+ghost use Rattle.std.specs.Prelude.{◌≡◌, ◌<◌, Err, IfOk, IfErr, is_ok};
 ghost use Rattle.std.specs.Net.Socket.{socket_port};
+ghost use Rattle.std.specs.declared.net.socket_addr.SocketAddr.{SocketAddr};
 ghost use Rattle.fed_stream.specs.Guards.{IsFresh};
 ghost use Rattle.fed_stream.specs.Streams.{stream};
 ghost use Rattle.fed_cli.specs.Exits.{TellsText};
 ghost use Rattle.fed_stream.specs.Known.{Known};
 ghost use Rattle.fed_stream.specs.declared.source.GivenUp.{GivenUp};
-ghost use Rattle.fed_cli.specs.Listens.{CallsPort, IsLocal, Listens, listened, port_line};
+ghost use Rattle.fed_cli.specs.Listens.{CallsPort, IsAtPort, IsLocal, Listens, listened, port_line};
 ghost use Rattle.med_session.specs.Prelude.{IsSound, shown};
 
 use crate::turns::{AcceptFault, Connections, Kept, serve_connections};
@@ -17,7 +18,7 @@ use med_session::Engine;
 use std::alloc::Global;
 use std::error::Error;
 use std::fmt;
-use std::io::{ErrorKind, Read};
+use std::io::{self, ErrorKind, Read};
 use std::net::{IpAddr, Ipv4Addr, Net, OpenListener, OpenStream, Shutdown, SocketAddr};
 use std::time::{Clock, Duration, Instant};
 
@@ -58,6 +59,25 @@ impl fmt::Display for ListenFault {
 
 impl Error for ListenFault {}
 
+/// Where a program listens: its runtime, or what a test has in its place. What the system does at an address is not known: that a listener
+/// takes the connections to the address it was asked for is trusted.
+pub trait Ports: Net {
+    /// This listener takes the connections to this address.
+    ghost listens_at: { Self.Listener → SocketAddr → Type 0 };
+
+    /// Listens at an address. The error is the system's.
+    fn listen(&self, address: SocketAddr) -> io::Result<Self::Listener>
+        ensures { IfOk result (λ listener. listens_at listener address) };
+}
+
+impl Ports for HostRuntime {
+    ghost listens_at = { λ _ _. Unit {0} };
+
+    fn listen(&self, address: SocketAddr) -> io::Result<Self::Listener> {
+        self.bind(address)
+    }
+}
+
 /// The connections to a port. Each is guarded: one that begins with a request line of HTTP gives no byte. What is taken, and what a
 /// connection gives, is the peers' doing: nothing else is promised of it.
 #[derive(Drop)]
@@ -67,12 +87,13 @@ pub struct Listening<'a, N: Net> {
     listener: N::Listener,
 }
 
-impl<'a, N: Net> Listening<'a, N> {
-    /// Listens on this port of 127.0.0.1. Refused where the port cannot be bound.
+impl<'a, N: Ports> Listening<'a, N> {
+    /// Listens on this port of 127.0.0.1 alone. Fails with `CannotListen` where the port cannot be bound.
     pub fn bind(alloc: Global, net: &'a N, port: u16) -> Result<Self, ListenFault>
-        ensures { IfErr result (λ fault. fault ≡ ListenFault.CannotListen port) }
+        ensures at { IfOk result (λ listening. IsAtPort N.listens_at port listening.listener) }
+        ensures err { IfErr result (λ fault. fault ≡ ListenFault.CannotListen port) }
     {
-        match net.bind(local_address(port)) {
+        match net.listen(local_address(port)) {
             Ok(listener) => Ok(Listening {
                 alloc,
                 clock: net,
@@ -158,7 +179,7 @@ fn local_address(port: u16) -> SocketAddr
 ///
 /// Of what peers send and get nothing can be said: they are others. Nothing is served where the port cannot be bound or the line could
 /// not be written: then a front of it was, and where the output reports its calls one of them failed, or 4,294,967,295 were interrupted.
-pub fn listen_and_serve<B: Wrapper2, V: AllocGlobal + Net + Clock, O: Sink, E: Sink>(
+pub fn listen_and_serve<B: Wrapper2, V: AllocGlobal + Ports + Clock, O: Sink, E: Sink>(
     rt: &V,
     engine: Engine<B>,
     port: u16,

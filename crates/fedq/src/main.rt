@@ -7,13 +7,12 @@ ghost use Rattle.fed_stream.specs.Streams.{stream};
 
 use blob_store::Disks;
 use fdw_api::interface::Wrapper;
-use fed_cli::{ArgsFault, run};
+use fed_cli::{ArgsFault, Ports, run};
 use fed_setup::inputs::ReadsInputs;
 use fed_setup::sources::Source;
 use sqlite_writes::Databases;
 use std::env;
 use std::io::{ErrorKind, Read, Write};
-use std::net::Net;
 use std::process::ExitCode;
 use std::rt::Env;
 use std::time::Clock;
@@ -30,7 +29,7 @@ fn own_words<V: AllocGlobal + Env>(rt: &V) -> Result<Vec<String>, ArgsFault> {
 // Runs the program over a runtime, whose allocations, databases, disks, inputs and network it takes: what it finds outside itself is what
 // these tell.
 fn run_on<
-    V: AllocGlobal + Databases + Disks + ReadsInputs + Net + Clock,
+    V: AllocGlobal + Databases + Disks + ReadsInputs + Ports + Clock,
     I: Read,
     O: Write,
     E: Write,
