@@ -40,7 +40,8 @@ use Rattle.med_planner.specs.Planned.{rows_shown, entry_rows}
 use Rattle.med_exec.specs.Prelude.{IsReady, RunAnswers, BeginsScans, HonestOver, tables_in as tables_at}
 use Rattle.med_exec.specs.BoundCounting.{scans_of}
 use Rattle.med_exec.specs.Running.{Stops, lacks_memory, source_fails, numbers_end, query_shows}
-use Rattle.med_exec.proofs.RunReading.{entry_rows_are}
+use Rattle.scan_loops.specs.Scans.{or_none}
+use Rattle.scan_loops.specs.Scans.{rows_in}
 
 -- ---- entries by their numbers
 
@@ -165,6 +166,17 @@ rows_past : (boxes : List (Option BoxState)) (es : List BoundEntry) (k : ℕ) �
 rows_past boxes [] k le = refl
 rows_past boxes (e ∷ es) zero le = absurd (omega arith)
 rows_past boxes (e ∷ es) (suc k) le = rows_past boxes es k (omega arith)
+
+rows_are : (o : Option (Option BoxState)) (t : ℕ) → rows_in (or_none o) t ≡ rows_shown o t
+rows_are None t = refl
+rows_are (Some None) t = refl
+rows_are (Some (Some s)) t = refl
+
+entry_rows_are : (boxes : List (Option BoxState)) (es : List BoundEntry) (k : ℕ) → k < length es
+    → tables_by es (rows_at boxes) k ≡ entry_rows boxes (map entry_place es) k
+entry_rows_are boxes [] k lt = absurd (omega arith)
+entry_rows_are boxes (e ∷ es) zero lt = rows_are (slice_get boxes e.source) e.table.number
+entry_rows_are boxes (e ∷ es) (suc k) lt = entry_rows_are boxes es k (omega arith)
 
 all_wide : (n : ℕ) (rs : List Tuple) → Each (λ r. length r ≡ n) rs → list_all (λ r. nat_eq (length r) n) rs ≡ true
 all_wide n [] h = refl
