@@ -1,6 +1,8 @@
 -- A bound query in the order in which its entries are joined.
-use Rattle.std.proofs.Common.{◌≡◌, ℕ, zero, suc, ◌+◌, ◌<◌, ◌≤◌, Bool, true, false, ◌&&◌, cond, nat_lt, nat_eq, List, [], ◌∷◌, ◌++◌, map, flat_map, length}
-use Rattle.std.proofs.Common.{get_or, refl, sym, ap, ◌∙◌, subst, arith, append_assoc, length-append, Option, Some, None, Contains, IsPermutation}
+use Rattle.std.proofs.Common.{◌≡◌, ℕ, zero, suc, ◌+◌, ◌<◌, ◌≤◌, Bool, true, false, ◌&&◌, cond, nat_lt, nat_eq, List, [], ◌∷◌, ◌++◌, map}
+use Rattle.std.proofs.Common.{flat_map, length}
+use Rattle.std.proofs.Common.{get_or, refl, sym, ap, ◌∙◌, subst, arith, append_assoc, length-append, Option, Some, None, Contains}
+use Rattle.std.proofs.Common.{IsPermutation}
 use Rattle.std.specs.Prelude.{slice_get, slice_index_or}
 use Rattle.std.specs.List.{range_with_len, list_all}
 use Rattle.std.proofs.lemmas.List.{length-map, get_or-map}
@@ -14,7 +16,8 @@ use Rattle.tri_expr.proofs.Shuffled.{Shuffled, none, skip, turn, both, same, bac
 use Rattle.med_value.specs.Datum.{Tuple}
 use Rattle.med_value.specs.declared.value.ColType.{ColType}
 use Rattle.med_value.specs.declared.cause.Cause.{Cause}
-use Rattle.med_query.specs.Prelude.{Query, Tables, IsAnswer, IsShownCause, CoreForm, Form, core_form, form_of, query_by, are_safe_cores, are_safe_chains, is_safe_from}
+use Rattle.med_query.specs.Prelude.{Query, Tables, IsAnswer, IsShownCause, CoreForm, Form, core_form, form_of, query_by, are_safe_cores}
+use Rattle.med_query.specs.Prelude.{are_safe_chains, is_safe_from}
 use Rattle.med_query.specs.Select.{query_of}
 use Rattle.med_query.specs.declared.select.SelectCore.{SelectCore}
 use Rattle.fdw_api.specs.State.{BoxState}
@@ -66,7 +69,8 @@ got_width (d ∷ es) (suc k) e h = got_width es k e h
 
 got_place : (es : List BoundEntry) (k : ℕ) (e : BoundEntry) → slice_get es k ≡ Some e → entry_place e ≡ place_of es k
 unfolding place_of
-got_place es k e h = two (λ (s n : ℕ). let p : Place = record { source = s; table = n } in p) (sym (got_source es k e h)) (sym (got_number es k e h))
+got_place es k e h = two (λ (s n : ℕ). let p : Place = record { source = s; table = n } in p) (sym (got_source es k e h))
+    (sym (got_number es k e h))
 
 places_at : (es : List BoundEntry) (ks : List ℕ) (ys : List BoundEntry) → AreAt es ks ys → map entry_place ys ≡ map (place_of es) ks
 places_at es [] [] h = refl
@@ -74,7 +78,8 @@ places_at es [] (y ∷ ys) h = absurd h
 places_at es (k ∷ ks) [] h = absurd h
 places_at es (k ∷ ks) (y ∷ ys) h = two (λ (p : Place) (ps : List Place). p ∷ ps) (got_place es k y h.0) (places_at es ks ys h.1)
 
-widths_at : (es : List BoundEntry) (ks : List ℕ) (ys : List BoundEntry) → AreAt es ks ys → map (λ (e : BoundEntry). e.width) ys ≡ map (width_of es) ks
+widths_at : (es : List BoundEntry) (ks : List ℕ) (ys : List BoundEntry) → AreAt es ks ys
+    → map (λ (e : BoundEntry). e.width) ys ≡ map (width_of es) ks
 widths_at es [] [] h = refl
 widths_at es [] (y ∷ ys) h = absurd h
 widths_at es (k ∷ ks) [] h = absurd h
@@ -87,21 +92,24 @@ got_there (x ∷ xs) y ys = got_there xs y ys
 in_turn : (xs ys : List BoundEntry) → AreAt (xs ++ ys) (range_with_len (length xs) (length ys)) ys
 in_turn xs [] = tt
 in_turn xs (y ∷ ys) =
-    let e : length (xs ++ y ∷ []) ≡ length xs + 1 = length-append xs (y ∷ []) in
-    (got_there xs y ys,
-    subst (λ (l : List BoundEntry). AreAt l (range_with_len (length xs + 1) (length ys)) ys) (append_assoc xs (y ∷ []) ys)
-    (subst (λ (n : ℕ). AreAt ((xs ++ y ∷ []) ++ ys) (range_with_len n (length ys)) ys) e (in_turn (xs ++ y ∷ []) ys)))
+    let e : length (xs ++ y ∷ []) ≡ length xs + 1 = length-append xs (y ∷ []) in (
+      got_there xs y ys,
+      subst (λ (l : List BoundEntry). AreAt l (range_with_len (length xs + 1) (length ys)) ys) (append_assoc xs (y ∷ []) ys)
+          (subst (λ (n : ℕ). AreAt ((xs ++ y ∷ []) ++ ys) (range_with_len n (length ys)) ys) e (in_turn (xs ++ y ∷ []) ys)),
+    )
 
 places_in_turn : (es : List BoundEntry) → map entry_place es ≡ map (place_of es) (range_with_len 0 (length es))
 places_in_turn es = places_at es (range_with_len 0 (length es)) es (in_turn [] es)
 
 -- ---- the order is one of all numbers
 
-core_shuffled : (ws : List ℕ) (f : CoreForm) (b : Bool) → Shuffled (tables_in f.from) (cond b (tables_of (core_order ws f)) (tables_in f.from))
+core_shuffled : (ws : List ℕ) (f : CoreForm) (b : Bool)
+    → Shuffled (tables_in f.from) (cond b (tables_of (core_order ws f)) (tables_in f.from))
 core_shuffled ws f true = order_tables ws f
 core_shuffled ws f false = same (tables_in f.from)
 
-cores_shuffled : (ws : List ℕ) (fs : List CoreForm) → Shuffled (flat_map (λ (f : CoreForm). tables_in f.from) fs) (flat_map (core_tables ws) fs)
+cores_shuffled : (ws : List ℕ) (fs : List CoreForm)
+    → Shuffled (flat_map (λ (f : CoreForm). tables_in f.from) fs) (flat_map (core_tables ws) fs)
 cores_shuffled ws [] = none
 cores_shuffled ws (f ∷ fs) = joined_to (core_shuffled ws f (is_inner f.from)) (cores_shuffled ws fs)
 
@@ -118,13 +126,16 @@ places_shuffled bound planned c is =
     let ws = bound_widths bound in
     let f = form_of bound.select in
     let n : length ws ≡ length es = length-map es (λ (e : BoundEntry). e.width) in
-    let s : Shuffled (range_with_len 0 (length es)) (order_of ws f) = subst (λ (k : ℕ). Shuffled (range_with_len 0 k) (order_of ws f)) n (all_shuffled ws f c) in
+    let s : Shuffled (range_with_len 0 (length es)) (order_of ws f) = subst (λ (k : ℕ). Shuffled (range_with_len 0 k) (order_of ws f)) n
+    (all_shuffled ws f c) in
     subst (λ (l : List Place). Shuffled l (map entry_place planned.entries.items)) (sym (places_in_turn es))
-    (subst (λ (l : List Place). Shuffled (map (place_of es) (range_with_len 0 (length es))) l) (sym (places_at es (order_of ws f) planned.entries.items is.entries)) (mapped (place_of es) s))
+    (subst (λ (l : List Place). Shuffled (map (place_of es) (range_with_len 0 (length es))) l)
+    (sym (places_at es (order_of ws f) planned.entries.items is.entries)) (mapped (place_of es) s))
 
 honest_over : (ps qs : List Place) (boxes : List (Option BoxState)) → Shuffled ps qs → HonestOver ps boxes → HonestOver qs boxes
 honest_over ps qs boxes s h slot i =
-    h slot (Contains-permutation (map (λ (p : Place). p.source) qs) (map (λ (p : Place). p.source) ps) slot (to_swaps (mapped (λ (p : Place). p.source) (back s))) i)
+    h slot (Contains-permutation (map (λ (p : Place). p.source) qs) (map (λ (p : Place). p.source) ps) slot
+    (to_swaps (mapped (λ (p : Place). p.source) (back s))) i)
 
 tables_shuffled : (slot : ℕ) {ps qs : List Place} → Shuffled ps qs → tables_at slot ps ≡ tables_at slot qs
 tables_shuffled slot none = refl
@@ -154,7 +165,8 @@ rows_listed : (boxes : List (Option BoxState)) (es : List BoundEntry) (ks : List
 rows_listed boxes es [] [] h = refl
 rows_listed boxes es [] (y ∷ ys) h = absurd h
 rows_listed boxes es (k ∷ ks) [] h = absurd h
-rows_listed boxes es (k ∷ ks) (y ∷ ys) h = two (λ (x : List Tuple) (l : List (List Tuple)). x ∷ l) (got_rows boxes es k y h.0) (rows_listed boxes es ks ys h.1)
+rows_listed boxes es (k ∷ ks) (y ∷ ys) h = two (λ (x : List Tuple) (l : List (List Tuple)). x ∷ l) (got_rows boxes es k y h.0)
+    (rows_listed boxes es ks ys h.1)
 
 at_length : (es : List BoundEntry) (ks : List ℕ) (ys : List BoundEntry) → AreAt es ks ys → length ys ≡ length ks
 at_length es [] [] h = refl
@@ -187,7 +199,8 @@ wide_tables : (boxes : List (Option BoxState)) (es : List BoundEntry) → RowsAr
 wide_tables boxes es h t = by (nat_lt t (length es)) refl
   where
     by : (b : Bool) → nat_lt t (length es) ≡ b
-        → list_all (λ r. nat_eq (length r) (width_at (map (λ (e : BoundEntry). e.width) es) t)) (entry_rows boxes (map entry_place es) t) ≡ true
+        → list_all (λ r. nat_eq (length r) (width_at (map (λ (e : BoundEntry). e.width) es) t)) (entry_rows boxes (map entry_place es) t)
+        ≡ true
     by true e =
         let lt : t < length es = ltb-true t (length es) e in
         all_wide (width_of es t) (entry_rows boxes (map entry_place es) t)
@@ -196,8 +209,10 @@ wide_tables boxes es h t = by (nat_lt t (length es)) refl
 
 -- ---- the query
 
-same_over : (boxes : List (Option BoxState)) (bound planned : BoundQuery) → IsReady boxes bound → IsOrdered bound planned → HonestOver (map entry_place bound.entries.items) boxes
-    → IsSameQuery (query_of bound.select) (entry_rows boxes (map entry_place bound.entries.items)) (query_of planned.select) (entry_rows boxes (map entry_place planned.entries.items))
+same_over : (boxes : List (Option BoxState)) (bound planned : BoundQuery) → IsReady boxes bound → IsOrdered bound planned
+    → HonestOver (map entry_place bound.entries.items) boxes
+    → IsSameQuery (query_of bound.select) (entry_rows boxes (map entry_place bound.entries.items)) (query_of planned.select)
+    (entry_rows boxes (map entry_place planned.entries.items))
 same_over boxes bound planned r is honest =
     let es = bound.entries.items in
     let fs = planned.entries.items in
@@ -209,26 +224,31 @@ same_over boxes bound planned r is honest =
     let many : length ws ≡ length fs = sym (at_length es order fs is.entries ∙ order_length ws f r.counts) in
     let numbers : form_tables f ≡ range_with_len 0 (length fs) = form_numbers ws f r.counts ∙ ap (range_with_len 0) many in
     let listed : map other (form_tables f) ≡ map db order =
-        ap (map other) numbers ∙ rows_listed boxes fs (range_with_len 0 (length fs)) fs (in_turn [] fs) ∙ sym (rows_listed boxes es order fs is.entries) in
+    ap (map other) numbers ∙ rows_listed boxes fs (range_with_len 0 (length fs)) fs (in_turn [] fs)
+    ∙ sym (rows_listed boxes es order fs is.entries) in
     subst (λ (q : Query). IsSameQuery (query_of bound.select) db q other) (sym (ap query_by is.form))
     (order_keeps ws bound.select db other r.safe (wide_tables boxes es (r.wide honest)) listed)
 
 honest_there : (boxes : List (Option BoxState)) (bound planned : BoundQuery) → IsReady boxes bound → IsOrdered bound planned
     → HonestOver (map entry_place bound.entries.items) boxes → HonestOver (map entry_place planned.entries.items) boxes
 honest_there boxes bound planned r is =
-    honest_over (map entry_place bound.entries.items) (map entry_place planned.entries.items) boxes (places_shuffled bound planned r.counts is)
+    honest_over (map entry_place bound.entries.items) (map entry_place planned.entries.items) boxes
+    (places_shuffled bound planned r.counts is)
 
 honest_here : (boxes : List (Option BoxState)) (bound planned : BoundQuery) → IsReady boxes bound → IsOrdered bound planned
     → HonestOver (map entry_place planned.entries.items) boxes → HonestOver (map entry_place bound.entries.items) boxes
 honest_here boxes bound planned r is =
-    honest_over (map entry_place planned.entries.items) (map entry_place bound.entries.items) boxes (back (places_shuffled bound planned r.counts is))
+    honest_over (map entry_place planned.entries.items) (map entry_place bound.entries.items) boxes
+    (back (places_shuffled bound planned r.counts is))
 
-pub answers : (boxes : List (Option BoxState)) (bound planned : BoundQuery) (rows : List Tuple) → IsReady boxes bound → IsOrdered bound planned
+pub answers : (boxes : List (Option BoxState)) (bound planned : BoundQuery) (rows : List Tuple) → IsReady boxes bound
+    → IsOrdered bound planned
     → RunAnswers (query_of planned.select) (map entry_place planned.entries.items) boxes rows
     → RunAnswers (query_of bound.select) (map entry_place bound.entries.items) boxes rows
 answers boxes bound planned rows r is h = record {
   answers = λ honest. (same_over boxes bound planned r is honest).answers rows (h.answers (honest_there boxes bound planned r is honest));
-  clear = λ honest c shows. h.clear (honest_there boxes bound planned r is honest) c ((same_over boxes bound planned r is honest).shown c shows);
+  clear = λ honest c shows. h.clear (honest_there boxes bound planned r is honest) c
+      ((same_over boxes bound planned r is honest).shown c shows);
 }
 
 pub stops : (old new : List (Option BoxState)) (bound planned : BoundQuery) (fault : Fault) → IsReady old bound → IsOrdered bound planned
@@ -238,7 +258,8 @@ stops old new bound planned fault r is (lacks_memory e) = lacks_memory e
 stops old new bound planned fault r is (source_fails e failed) = source_fails e failed
 stops old new bound planned fault r is (numbers_end e used) = numbers_end e used
 stops old new bound planned fault r is (query_shows c e of_run shows) =
-    query_shows c e of_run (λ honest. (same_over old bound planned r is honest).shows c (shows (honest_there old bound planned r is honest)))
+    query_shows c e of_run
+    (λ honest. (same_over old bound planned r is honest).shows c (shows (honest_there old bound planned r is honest)))
 
 -- ---- what it owes its plan
 
@@ -283,20 +304,25 @@ same_number es ys ks k i = got_number ys k i.entry i.there ∙ sym (got_number e
 same_width : (es ys : List BoundEntry) (ks : List ℕ) (k : ℕ) (i : Found es ks ys k) → width_of ys k ≡ width_of es i.number
 same_width es ys ks k i = got_width ys k i.entry i.there ∙ sym (got_width es i.number i.entry i.here)
 
-wide_there : (es ys : List BoundEntry) (ks : List ℕ) (rows : ℕ → ℕ → List Tuple) → AreAt es ks ys → RowsAreWide es (tables_by es rows) → RowsAreWide ys (tables_by ys rows)
+wide_there : (es ys : List BoundEntry) (ks : List ℕ) (rows : ℕ → ℕ → List Tuple) → AreAt es ks ys → RowsAreWide es (tables_by es rows)
+    → RowsAreWide ys (tables_by ys rows)
 wide_there es ys ks rows h wide k lt =
     let i = found es ks ys h k lt in
-    let there : tables_by es rows i.number ≡ tables_by ys rows k = two rows (sym (same_source es ys ks k i)) (sym (same_number es ys ks k i)) in
+    let there : tables_by es rows i.number
+    ≡ tables_by ys rows k = two rows (sym (same_source es ys ks k i)) (sym (same_number es ys ks k i)) in
     subst (λ (rs : List Tuple). Each (λ r. length r ≡ width_of ys k) rs) there
-    (subst (λ (n : ℕ). Each (λ r. length r ≡ n) (tables_by es rows i.number)) (sym (same_width es ys ks k i)) (wide i.number (below_end es i.number i.entry i.here)))
+    (subst (λ (n : ℕ). Each (λ r. length r ≡ n) (tables_by es rows i.number)) (sym (same_width es ys ks k i))
+    (wide i.number (below_end es i.number i.entry i.here)))
 
 safe_forms : (cs : List SelectCore) → are_safe_cores cs ≡ are_safe_forms (map core_form cs)
 safe_forms [] = refl
 safe_forms (c ∷ cs) = ap (λ (b : Bool). is_safe_from c.from.items && b) (safe_forms cs)
 
 -- the types of what stands under a new number
-types_there : (boxes : List (Option BoxState)) (es ys : List BoundEntry) (ks : List ℕ) (kss : List (List ColType)) → AreOfKinds (bound_at boxes) es kss → AreAt es ks ys
-    → length kss ≡ length es → (k : ℕ) (types : List ColType) → slice_get (map (kinds_at kss) ks) k ≡ Some types → IsOfKinds (bound_at boxes) ys k types
+types_there : (boxes : List (Option BoxState)) (es ys : List BoundEntry) (ks : List ℕ) (kss : List (List ColType))
+    → AreOfKinds (bound_at boxes) es kss → AreAt es ks ys
+    → length kss ≡ length es → (k : ℕ) (types : List ColType) → slice_get (map (kinds_at kss) ks) k ≡ Some types
+    → IsOfKinds (bound_at boxes) ys k types
 types_there boxes es ys ks kss typed h long k types got =
     let within : k < length (map (kinds_at kss) ks) = below_any (map (kinds_at kss) ks) k types got in
     let lt : k < length ys = omega (arith, length-map ks (kinds_at kss), at_length es ks ys h) in
@@ -317,7 +343,8 @@ type_widths ws kss e [] = refl
 type_widths ws kss e (k ∷ ks) =
     two (λ (n : ℕ) (ns : List ℕ). n ∷ ns) (ap (λ (us : List ℕ). width_at us k) e ∙ widths_of_kinds kss k) (type_widths ws kss e ks)
 
-pub ready : (boxes : List (Option BoxState)) (bound planned : BoundQuery) → IsReady boxes bound → IsOrdered bound planned → IsReady boxes planned
+pub ready : (boxes : List (Option BoxState)) (bound planned : BoundQuery) → IsReady boxes bound → IsOrdered bound planned
+    → IsReady boxes planned
 ready boxes bound planned r is =
     let es = bound.entries.items in
     let fs = planned.entries.items in
@@ -327,15 +354,18 @@ ready boxes bound planned r is =
     let still = stays_bound ws r.kinds f r.counts r.view r.alike r.typed.widths in
     let widths : bound_widths planned ≡ new_widths ws f = widths_at es order fs is.entries in
     let long : length r.kinds ≡ length es =
-        sym (length-map r.kinds (λ (ks : List ColType). length ks)) ∙ ap (λ (us : List ℕ). length us) (sym r.typed.widths) ∙ length-map es (λ (e : BoundEntry). e.width) in
+    sym (length-map r.kinds (λ (ks : List ColType). length ks)) ∙ ap (λ (us : List ℕ). length us) (sym r.typed.widths)
+    ∙ length-map es (λ (e : BoundEntry). e.width) in
     record {
       kinds = new_kinds ws r.kinds f;
       typed = record {
         each = types_there boxes es fs order r.kinds r.typed is.entries long;
         widths = widths ∙ type_widths ws r.kinds r.typed.widths order;
       };
-      counts = subst (λ (us : List ℕ). FormCounts us (form_of planned.select)) (sym widths) (subst (λ (g : Form). FormCounts (new_widths ws f) g) (sym is.form) still.counts);
-      view = subst (λ (us : List ℕ). FormWithin us (form_of planned.select)) (sym widths) (subst (λ (g : Form). FormWithin (new_widths ws f) g) (sym is.form) still.view);
+      counts = subst (λ (us : List ℕ). FormCounts us (form_of planned.select)) (sym widths)
+          (subst (λ (g : Form). FormCounts (new_widths ws f) g) (sym is.form) still.counts);
+      view = subst (λ (us : List ℕ). FormWithin us (form_of planned.select)) (sym widths)
+          (subst (λ (g : Form). FormWithin (new_widths ws f) g) (sym is.form) still.view);
       alike = subst (λ (g : Form). FormAlike (new_kinds ws r.kinds f) g) (sym is.form) still.alike;
       wide = λ honest. wide_there es fs order (rows_at boxes) is.entries (r.wide (honest_here boxes bound planned r is honest));
       safe = safe_forms planned.select.cores.items ∙ ap (λ (g : Form). are_safe_forms g.cores) is.form

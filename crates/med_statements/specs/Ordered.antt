@@ -13,11 +13,13 @@ use Rattle.med_exec.specs.BoundCounting.{scans_of}
 use Rattle.med_exec.specs.Running.{Stops}
 
 abbrev pub OrderIsReady : Type 0
-OrderIsReady = (boxes : List (Option BoxState)) (bound planned : BoundQuery) → IsReady boxes bound → IsOrdered bound planned → IsReady boxes planned
+OrderIsReady = (boxes : List (Option BoxState)) (bound planned : BoundQuery) → IsReady boxes bound → IsOrdered bound planned
+    → IsReady boxes planned
 
 -- what it answers is an answer, and shows no cause
 abbrev pub OrderAnswers : Type 0
-OrderAnswers = (boxes : List (Option BoxState)) (bound planned : BoundQuery) (rows : List Tuple) → IsReady boxes bound → IsOrdered bound planned
+OrderAnswers = (boxes : List (Option BoxState)) (bound planned : BoundQuery) (rows : List Tuple) → IsReady boxes bound
+    → IsOrdered bound planned
     → RunAnswers (query_of planned.select) (map entry_place planned.entries.items) boxes rows
     → RunAnswers (query_of bound.select) (map entry_place bound.entries.items) boxes rows
 
