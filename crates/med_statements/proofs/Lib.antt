@@ -12,3 +12,4 @@ pub mod CanWrites
 pub mod Served
 pub mod Typed
 pub mod Runs
+pub mod Ordered

@@ -14,6 +14,7 @@
 mod fault;
 pub mod law;
 mod leasing;
+pub mod order_law;
 pub mod replies;
 mod risk;
 mod running;
