@@ -8,7 +8,7 @@ import json, os, runpy, subprocess, sys
 from concurrent.futures import ThreadPoolExecutor
 
 # The longest first: that of folders waits for the disk.
-TESTS = """folders refused_memory like_sqlite run limits gateway soak shell driver one_line first_hour pages cut_streams setup copies schemas launcher random_files exchanged random_selects
+TESTS = """folders refused_memory like_sqlite run limits gateway soak shell driver one_line first_hour pages cut_streams setup copies schemas launcher random_files exchanged random_selects join_orders
     install hostile_names same_words replaced mistakes tried connections random_objects random_writes leaving random_cursors words"""
 SCRIPTS = [*(f"tests/{it}" for it in TESTS.split()), "examples/run", "docs/makers/draw", "docs/words"]
 LONG = ["tests/gateway_long", "tests/clients"]  # that ./check alone runs: they take longer than all others together, or need what may not be installed

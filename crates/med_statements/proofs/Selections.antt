@@ -25,7 +25,14 @@ use Rattle.med_catalog.specs.Objects.{Objects}
 use Rattle.med_world.specs.Prelude.{cause_of, ReadsTables}
 use Rattle.med_world.specs.Selecting.{AnswersOver, Selects, SelectFails, run_fails, too_many}
 use Rattle.med_world.specs.Starting.{RunFails, no_memory, box_fails, numbers_out, shows_cause}
+use Rattle.bound_order.specs.Ordered.{IsOrdered}
 use Rattle.med_exec.specs.Prelude.{PullsRows, RunAnswers}
+use Rattle.std.specs.Prelude.{Result, Ok, Err, IfOk}
+
+-- what each value has, where there is one
+pub if_ok : {T E : Type 0} (P Q : T → Type 0) (r : Result T E) → ((x : T) → P x → Q x) → IfOk r P → IfOk r Q
+if_ok P Q (Ok x) f p = f x p
+if_ok P Q (Err e) f p = tt
 
 -- ---- what was bound
 
@@ -88,8 +95,8 @@ pub record IsBoundBy (o : Objects) (user : Name) (bound : List Attached) (q : Se
   pub places : ArePlaces bound (meant_by o q).entries (map entry_place b.entries.items)
 
 pub selected : ExpressionsIgnoreOrder → AnswersInAnyOrder → CausesInAnyOrder → (o : Objects) (user : Name) (bound : List Attached) (q : SelectTree) (b : BoundQuery) (rows : List Tuple) (old new : List (Option BoxState))
-    → IsBoundBy o user bound q b → is_large_form (form_of b.select) ≡ false → AllServed old new → ReadsTables (map entry_place b.entries.items) old new → (asked : BoundQuery) → form_of asked.select ≡ form_of b.select → map entry_place asked.entries.items ≡ map entry_place b.entries.items → PullsRows asked old new → RunAnswers (written_query b.select) (map entry_place b.entries.items) old rows → Selects o user bound q old (map string_bytes b.names.items) rows new
-selected order any causes o user bound q b rows old new is few served once asked form at pulls run =
+    → IsBoundBy o user bound q b → is_large_form (form_of b.select) ≡ false → AllServed old new → ReadsTables (map entry_place b.entries.items) old new → (asked : BoundQuery) → form_of asked.select ≡ form_of b.select → map entry_place asked.entries.items ≡ map entry_place b.entries.items → (planned : BoundQuery) → IsOrdered asked planned → PullsRows planned old new → RunAnswers (written_query b.select) (map entry_place b.entries.items) old rows → Selects o user bound q old (map string_bytes b.names.items) rows new
+selected order any causes o user bound q b rows old new is few served once asked form at planned by pulls run =
     let m = meant_by o q in
     let places = map entry_place b.entries.items in
     record {
@@ -100,7 +107,7 @@ selected order any causes o user bound q b rows old new is few served once asked
       places = places;
       are = is.places;
       reads = once;
-      pulls = record { bound = asked; form = form ∙ is.meant.form; at = at; rows = pulls };
+      pulls = record { bound = asked; form = form ∙ is.meant.form; at = at; planned = planned; order = by; rows = pulls };
       answers = subst (λ (x : Query). AnswersOver x places old rows) (query_bound m b is.meant) (answers_over any causes (written_query b.select) (steady order b.select) places old rows run);
     }
 

@@ -1,5 +1,5 @@
--- A bound query in the order in which its entries are joined: it may be asked of the boxes as it was, and what it answers and shows over
--- them is what the query does.
+-- A bound query in the order in which its entries are joined: it can run over the wrappers as it could before, and what it answers and
+-- shows over them is what the query does.
 use Rattle.std.specs.Prelude.{List, map, Option}
 use Rattle.med_value.specs.Datum.{Tuple}
 use Rattle.med_query.specs.Select.{query_of}

@@ -2,8 +2,8 @@
 
 ghost use Rattle.med_statements.specs.Ordered.{OrderIsReady, OrderAnswers, OrderStops, OrderBegins};
 
-/// Where a bound query may be asked of the boxes, it may be in the order in which its entries are joined: it then begins the same scans,
-/// what it answers is an answer to the query, and why it stops is why the query does.
+/// A bound query that can run over the wrappers can run in the order in which its entries are joined. It then begins the same scans, its
+/// answers are answers to the query, and it stops for the reasons for which the query stops.
 pub fn ordered_queries_answer()
     ensures ready { OrderIsReady }
     ensures answers { OrderAnswers }

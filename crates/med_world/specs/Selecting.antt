@@ -8,6 +8,7 @@ use Rattle.med_query.specs.Prelude.{Query, Tables, SameRows, IsAnswer, Form, for
 use Rattle.fdw_api.specs.State.{BoxState}
 use Rattle.med_binder.specs.Prelude.{Place, entry_place, meant_by, IsBindable, NotBound, Attached, ArePlaces}
 use Rattle.med_binder.specs.declared.bound.BoundQuery.{BoundQuery}
+use Rattle.bound_order.specs.Ordered.{IsOrdered}
 use Rattle.med_exec.specs.Prelude.{PullsRows, AllServed, HonestOver}
 use Rattle.med_planner.specs.Planned.{entry_rows}
 use Rattle.med_world.specs.Counted.{ReadsTables}
@@ -20,14 +21,16 @@ pub record AnswersOver (q : Query) (places : List Place) (boxes : List (Option B
   pub answers : HonestOver places boxes → (db : Tables) → SameRows (entry_rows boxes places) db → IsAnswer q db rows
   pub clear : HonestOver places boxes → (db : Tables) → SameRows (entry_rows boxes places) db → (c : Cause) → IsShownCause q db c → ⊥
 
--- How many rows the boxes gave for a query of this form over tables in these places: the run asked for none, or went by what the boxes
--- agreed to. Of one table whose box agreed to give the rows in the order of ORDER BY, or where there is none, and answered Exact to each
--- conjunct, with LIMIT no more than OFFSET and LIMIT ask for.
+-- How many rows the wrappers returned for a query of this form over tables in these places, in the order in which its entries are joined:
+-- the run requested none, or went by what the wrappers agreed to. One table's wrapper that agreed to return the rows in the order of
+-- ORDER BY, or where there is none, and answered Exact to each conjunct, returned no more under LIMIT than OFFSET and LIMIT take.
 pub record PullsAgreed (f : Form) (places : List Place) (old new : List (Option BoxState)) : Type 0 where
   pub bound : BoundQuery
   pub form : form_of bound.select ≡ f
   pub at : map entry_place bound.entries.items ≡ places
-  pub rows : PullsRows bound old new
+  pub planned : BoundQuery
+  pub order : IsOrdered bound planned
+  pub rows : PullsRows planned old new
 
 -- The query was answered from the boxes, which read each of its tables once.
 pub record Selects (o : Objects) (user : Name) (bound : List Attached) (q : SelectTree) (old : List (Option BoxState))

@@ -22,6 +22,6 @@ returns-in-Err-clause-err g c m is =
     let b = c.args.query in
     let places = map entry_place b.entries.items in
     let old = states g.W.Wrapper.meaning c.args.slots.now.items in
-    let new = states g.W.Wrapper.meaning c.run_bound.new.slots.items in
+    let new = states g.W.Wrapper.meaning c.run_ordered.new.slots.items in
     rw c.cause_of.ensures (subst (λ (x : Query). RunFails x places (cause_of c.in-Err.fault) old new) (query_bound m b is)
     (fails_over c.causes_ignore_order.ensures (written_query b.select) (steady c.expressions_ignore_order.ensures b.select) places c.in-Err.fault old new c.in-Err.ensures.err))

@@ -18,8 +18,8 @@ returns-in_err-query-clause-err g c =
     let p = err_from_is_err_and c.from_residual.result c.from_residual.ensures.1 in
     rw (p.1, p.2) (not_bound c.in_err-query.ensures.refused refl)
 
-pub run_bound-requires : goal.run_bound-requires
-run_bound-requires g c =
+pub run_ordered-requires : goal.run_ordered-requires
+run_ordered-requires g c =
     let o = objects c.args.catalog.now in
     let q = query_in (statement_tree c.args.statement.now) in
     let b = c.in_ok-query.query in
@@ -37,7 +37,7 @@ returns-in-Err-clause-err g c =
     let is : IsBoundBy o c.args.user.now (map attached c.args.bound.now) q c.in_ok-query.query = record { bindable = c.in_ok-query.ensures.bindable; meant = c.in_ok-query.ensures.meant; places = c.in_ok-query.ensures.places } in
     let few : is_large_form (form_of c.in_ok-query.query.select) ≡ false = sym c.is_large_query.ensures ∙ c.if-is_large_query.false in
     rw c.cause_of.ensures (unanswered c.expressions_ignore_order.ensures c.causes_ignore_order.ensures o c.args.user.now (map attached c.args.bound.now) q c.in_ok-query.query c.in-Err.fault
-    (states m c.args.slots.now.items) (states m c.run_bound.new.slots.items) is few c.run_bound.ensures.served c.in-Err.ensures.err)
+    (states m c.args.slots.now.items) (states m c.run_ordered.new.slots.items) is few c.run_ordered.ensures.served c.in-Err.ensures.err)
 
 pub returns-clause-ok : goal.returns-clause-ok
 returns-clause-ok g c =
@@ -47,7 +47,7 @@ returns-clause-ok g c =
     let is : IsBoundBy o c.args.user.now (map attached c.args.bound.now) q c.in_ok-query.query = record { bindable = c.in_ok-query.ensures.bindable; meant = c.in_ok-query.ensures.meant; places = c.in_ok-query.ensures.places } in
     let few : is_large_form (form_of c.in_ok-query.query.select) ≡ false = sym c.is_large_query.ensures ∙ c.if-is_large_query.false in
     rw c.replace-names.ensures.value (selected c.expressions_ignore_order.ensures c.answers_ignore_order.ensures c.causes_ignore_order.ensures o c.args.user.now (map attached c.args.bound.now) q c.in_ok-query.query (map tuple c.in-Ok.rows.items)
-    (states m c.args.slots.now.items) (states m c.run_bound.new.slots.items) is few c.run_bound.ensures.served (c.bound_queries_are_ready.ensures.once c.in_ok-query.query (states m c.args.slots.now.items) (states m c.run_bound.new.slots.items) c.in-Ok.ensures.begins) _ refl refl c.run_bound.ensures.pulls c.in-Ok.ensures.ok)
+    (states m c.args.slots.now.items) (states m c.run_ordered.new.slots.items) is few c.run_ordered.ensures.served (c.bound_queries_are_ready.ensures.once c.in_ok-query.query (states m c.args.slots.now.items) (states m c.run_ordered.new.slots.items) c.in-Ok.ensures.begins) _ refl refl c.in-Ok.ensures.pulls.0 c.in-Ok.ensures.pulls.1 c.in-Ok.ensures.pulls.2 c.in-Ok.ensures.ok)
 
 pub returns-then-is_large_query-clause-err : goal.returns-then-is_large_query-clause-err
 returns-then-is_large_query-clause-err g c =
