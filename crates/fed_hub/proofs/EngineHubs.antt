@@ -8,8 +8,10 @@ use Rattle.session_wire.specs.Run.{IsAnswered}
 use Rattle.session_wire.specs.Exchanges.{Exchange, Exchanged}
 use Rattle.session_wire.specs.Worlds.{Scene, scene_of, SceneSteps}
 
-one_follows : {W : Type 0} (meaning : W → BoxState) (old new : Engine W) (text reply : List ℕ) → IsAnswered (EngineSteps meaning) old text reply new → (w : World) → Agrees (shown meaning old) w
-    → (after : World) × IsAnswered SceneSteps (scene_of meaning old w) text reply (scene_of meaning new after) × Agrees (shown meaning new) after
+one_follows : {W : Type 0} (meaning : W → BoxState) (old new : Engine W) (text reply : List ℕ)
+    → IsAnswered (EngineSteps meaning) old text reply new → (w : World) → Agrees (shown meaning old) w
+    → (after : World) × IsAnswered SceneSteps (scene_of meaning old w) text reply (scene_of meaning new after)
+    × Agrees (shown meaning new) after
 one_follows meaning old new text reply (inl h) w agrees =
     let leads = h.3.leads in
     let one = leads.step w agrees in
@@ -17,7 +19,8 @@ one_follows meaning old new text reply (inl h) w agrees =
 one_follows meaning old new text reply (inr h) w agrees =
     (w, inr (h.0, h.1, ap (λ e. scene_of meaning e w) h.2), subst (λ e. Agrees (shown meaning e) w) (sym h.2) agrees)
 
-pub all_follow : {W : Type 0} (meaning : W → BoxState) (old new : Engine W) (es : List Exchange) → Exchanged (EngineSteps meaning) old es new → (w : World) → Agrees (shown meaning old) w
+pub all_follow : {W : Type 0} (meaning : W → BoxState) (old new : Engine W) (es : List Exchange)
+    → Exchanged (EngineSteps meaning) old es new → (w : World) → Agrees (shown meaning old) w
     → (after : World) × Exchanged SceneSteps (scene_of meaning old w) es (scene_of meaning new after) × Agrees (shown meaning new) after
 all_follow meaning old new [] h w agrees = (w, ap (λ e. scene_of meaning e w) h, subst (λ e. Agrees (shown meaning e) w) (sym h) agrees)
 all_follow meaning old new (e ∷ es) h w agrees =

@@ -1,5 +1,6 @@
 -- What was said, in one list and session by session.
-use Rattle.std.proofs.Common.{◌≡◌, ◌≢◌, ℕ, ◌==◌, zero, suc, ◌<◌, Bool, true, false, List, [], ◌∷◌, ◌++◌, map, flat_map, length, slice_get, slice_set, Some, refl, sym, ap, ◌∙◌, subst, append_assoc, append-nil, arith}
+use Rattle.std.proofs.Common.{◌≡◌, ◌≢◌, ℕ, ◌==◌, zero, suc, ◌<◌, Bool, true, false, List, [], ◌∷◌, ◌++◌, map, flat_map, length, slice_get}
+use Rattle.std.proofs.Common.{slice_set, Some, refl, sym, ap, ◌∙◌, subst, append_assoc, append-nil, arith}
 use Rattle.std.proofs.lemmas.List.{map-append}
 use Rattle.std.proofs.lemmas.Grind.{flat_map-append}
 use Rattle.std.proofs.lemmas.Bool.Decides.{nat_tests}
@@ -11,13 +12,16 @@ use Rattle.fed_hub.specs.Said.{Said, exchange_of, exchanges_of, lines_in, told_i
 
 -- ---- one list
 
-pub exchanged-append : {W : Type 0} (step : Steps W) (old mid new : W) (xs ys : List Exchange) → Exchanged step old xs mid → Exchanged step mid ys new → Exchanged step old (xs ++ ys) new
+pub exchanged-append : {W : Type 0} (step : Steps W) (old mid new : W) (xs ys : List Exchange) → Exchanged step old xs mid
+    → Exchanged step mid ys new → Exchanged step old (xs ++ ys) new
 exchanged-append step old mid new [] ys h k = subst (λ w. Exchanged step w ys new) h k
 exchanged-append step old mid new (x ∷ xs) ys h k = (h.0, h.1, exchanged-append step h.0 mid new xs ys h.2 k)
 
-pub said-append : {W : Type 0} (step : Steps W) (old mid new : W) (xs ys : List Said) → Exchanged step old (exchanges_of xs) mid → Exchanged step mid (exchanges_of ys) new → Exchanged step old (exchanges_of (xs ++ ys)) new
+pub said-append : {W : Type 0} (step : Steps W) (old mid new : W) (xs ys : List Said) → Exchanged step old (exchanges_of xs) mid
+    → Exchanged step mid (exchanges_of ys) new → Exchanged step old (exchanges_of (xs ++ ys)) new
 said-append step old mid new xs ys h k =
-    subst (λ es. Exchanged step old es new) (sym (map-append (λ (s : Said). exchange_of s) xs ys)) (exchanged-append step old mid new (exchanges_of xs) (exchanges_of ys) h k)
+    subst (λ es. Exchanged step old es new) (sym (map-append (λ (s : Said). exchange_of s) xs ys)) (exchanged-append step old mid new
+    (exchanges_of xs) (exchanges_of ys) h k)
 
 -- ---- session by session
 
@@ -25,7 +29,8 @@ pub part-append : (sid : ℕ) (xs ys : List Said) → part_of sid (xs ++ ys) ≡
 part-append sid [] ys = refl
 part-append sid (x ∷ xs) ys = at_first (x.sid == sid) refl (part-append sid xs ys)
   where
-    at_first : (t : Bool) → (x.sid == sid) ≡ t → part_of sid (xs ++ ys) ≡ part_of sid xs ++ part_of sid ys → part_of sid (x ∷ xs ++ ys) ≡ part_of sid (x ∷ xs) ++ part_of sid ys
+    at_first : (t : Bool) → (x.sid == sid) ≡ t → part_of sid (xs ++ ys) ≡ part_of sid xs ++ part_of sid ys
+        → part_of sid (x ∷ xs ++ ys) ≡ part_of sid (x ∷ xs) ++ part_of sid ys
     at_first true e k = rw e (ap (λ l. x ∷ l) k)
     at_first false e k = rw e k
 
@@ -52,7 +57,8 @@ own-append sid (x ∷ xs) ys h k = (h.0, own-append sid xs ys h.1 k)
 pub told-append : (xs ys : List Said) → told_in (xs ++ ys) ≡ told_in xs ++ told_in ys
 told-append xs ys = flat_map-append (λ (s : Said). bare s.reply) xs ys
 
-pub before-append : (xs : List Said) (s : Said) (more : Lines) → before (lines_in (xs ++ s ∷ [])) more ≡ before (lines_in xs) (line s.text more)
+pub before-append : (xs : List Said) (s : Said) (more : Lines) → before (lines_in (xs ++ s ∷ [])) more ≡ before (lines_in xs)
+    (line s.text more)
 before-append [] s more = refl
 before-append (x ∷ xs) s more = ap (line x.text) (before-append xs s more)
 

@@ -1,5 +1,7 @@
 -- What a turn of a connection comes to.
-use Rattle.std.proofs.Common.{◌≡◌, ◌⊎◌, ℕ, Option, Some, None, Bool, false, List, [], ◌∷◌, ◌++◌, refl, sym, ap, ◌∙◌, subst, inl, inr, append_assoc, append-nil, zero, suc, ◌+◌, ◌-◌, ◌<◌, ◌≢◌, is_some, length, replicate, slice_get, slice_set, arith}
+use Rattle.std.proofs.Common.{◌≡◌, ◌⊎◌, ℕ, Option, Some, None, Bool, false, List, [], ◌∷◌, ◌++◌, refl, sym, ap, ◌∙◌, subst, inl, inr}
+use Rattle.std.proofs.Common.{append_assoc, append-nil, zero, suc, ◌+◌, ◌-◌, ◌<◌, ◌≢◌, is_some, length, replicate, slice_get, slice_set}
+use Rattle.std.proofs.Common.{arith}
 use Rattle.std.proofs.lemmas.List.{length-replicate}
 use Rattle.session_wire.specs.Run.{Steps}
 use Rattle.session_wire.specs.Exchanges.{Exchanged}
@@ -27,34 +29,45 @@ pub none_more : (P : List Said → Type 0) (part : List Said) → P part → P (
 none_more P part p = subst P (sym (append-nil part)) p
 
 -- nothing was taken of it
-pub same_open : {P : Type 0} (remaining contents : P → Option (List ℕ)) (taken : P) (k new : Link P) (part : List Said) → new.peer ≡ k.peer → unsent_in new.outbox ≡ unsent_in k.outbox → unread_in new.inbox ≡ unread_in k.inbox
-    → new.is_opened ≡ k.is_opened → new.has_ended ≡ k.has_ended → IsOpen remaining contents taken k part → IsOpen remaining contents taken new part
+pub same_open : {P : Type 0} (remaining contents : P → Option (List ℕ)) (taken : P) (k new : Link P) (part : List Said) → new.peer ≡ k.peer
+    → unsent_in new.outbox ≡ unsent_in k.outbox → unread_in new.inbox ≡ unread_in k.inbox
+    → new.is_opened ≡ k.is_opened → new.has_ended ≡ k.has_ended → IsOpen remaining contents taken k part
+    → IsOpen remaining contents taken new part
 same_open {P} remaining contents taken k new part same left unread opened ended h =
-    sent_open remaining contents taken k new [] part (sym left) (subst (λ (p : P). Appends (contents k.peer) (contents p) []) (sym same) (Appends-nil (contents k.peer))) (ap remaining same) unread opened ended h
+    sent_open remaining contents taken k new [] part (sym left) (subst (λ (p : P). Appends (contents k.peer) (contents p) []) (sym same)
+    (Appends-nil (contents k.peer))) (ap remaining same) unread opened ended h
 
 -- it is closed, for a line that closes it
-pub closes : {P : Type 0} (remaining contents : P → Option (List ℕ)) (result : Turn) (taken : P) (k new : Link P) (part : List Said) → (result ≡ PartsNow → unsent_in new.outbox ≡ unsent_in k.outbox ++ closing_lines)
-    → new.peer ≡ k.peer → (result ≡ PartsNow) ⊎ (result ≡ Breaks) → IsOpenAt remaining contents taken k closed part → Turns remaining contents result taken new part
+pub closes : {P : Type 0} (remaining contents : P → Option (List ℕ)) (result : Turn) (taken : P) (k new : Link P) (part : List Said)
+    → (result ≡ PartsNow → unsent_in new.outbox ≡ unsent_in k.outbox ++ closing_lines)
+    → new.peer ≡ k.peer → (result ≡ PartsNow) ⊎ (result ≡ Breaks) → IsOpenAt remaining contents taken k closed part
+    → Turns remaining contents result taken new part
 closes remaining contents GoesOn taken k new part told same (inl e) h = absurd cc
 closes remaining contents GoesOn taken k new part told same (inr e) h = absurd cc
 closes remaining contents PartsNow taken k new part told same e h = closed_by remaining contents taken k new part same (told refl) h
 closes remaining contents Breaks taken k new part told same e h = broke remaining contents taken k new closed part same h
 
 -- or for its first line
-pub closes_at_first : {P : Type 0} (remaining contents : P → Option (List ℕ)) (result : Turn) (taken : P) (k new : Link P) (text : List ℕ) (more : Lines) (part : List Said)
-    → (result ≡ PartsNow → unsent_in new.outbox ≡ unsent_in k.outbox ++ closing_lines) → new.peer ≡ k.peer → (result ≡ PartsNow) ⊎ (result ≡ Breaks) → k.is_opened ≡ false → (Opens text → ⊥)
+pub closes_at_first : {P : Type 0} (remaining contents : P → Option (List ℕ)) (result : Turn) (taken : P) (k new : Link P) (text : List ℕ)
+    (more : Lines) (part : List Said)
+    → (result ≡ PartsNow → unsent_in new.outbox ≡ unsent_in k.outbox ++ closing_lines) → new.peer ≡ k.peer → (result ≡ PartsNow)
+    ⊎ (result ≡ Breaks) → k.is_opened ≡ false → (Opens text → ⊥)
     → IsOpenAt remaining contents taken k (line text more) part → Turns remaining contents result taken new part
 closes_at_first remaining contents GoesOn taken k new text more part told same (inl e) fresh other h = absurd cc
 closes_at_first remaining contents GoesOn taken k new text more part told same (inr e) fresh other h = absurd cc
-closes_at_first remaining contents PartsNow taken k new text more part told same e fresh other h = closed_at_first remaining contents taken k new text more part fresh other same (told refl) h
-closes_at_first remaining contents Breaks taken k new text more part told same e fresh other h = broke remaining contents taken k new (line text more) part same h
+closes_at_first remaining contents PartsNow taken k new text more part told same e fresh other h = closed_at_first remaining contents taken
+    k new text more part fresh other same (told refl) h
+closes_at_first remaining contents Breaks taken k new text more part told same e fresh other h = broke remaining contents taken k new
+    (line text more) part same h
 
 -- a state of lines that are equal
-pub open_along : {P : Type 0} (remaining contents : P → Option (List ℕ)) (taken : P) (k : Link P) (a b : Lines) (part : List Said) → a ≡ b → IsOpenAt remaining contents taken k a part → IsOpenAt remaining contents taken k b part
+pub open_along : {P : Type 0} (remaining contents : P → Option (List ℕ)) (taken : P) (k : Link P) (a b : Lines) (part : List Said) → a ≡ b
+    → IsOpenAt remaining contents taken k a part → IsOpenAt remaining contents taken k b part
 open_along remaining contents taken k a b part e h = subst (λ (ls : Lines). IsOpenAt remaining contents taken k ls part) e h
 
 -- with the bytes that are left of it in another inbox
-pub open_with : {P : Type 0} (remaining contents : P → Option (List ℕ)) (taken : P) (k new : Link P) (more : Lines) (part : List Said) → new.peer ≡ k.peer → unsent_in new.outbox ≡ unsent_in k.outbox → new.is_opened ≡ k.is_opened → new.has_ended ≡ k.has_ended
+pub open_with : {P : Type 0} (remaining contents : P → Option (List ℕ)) (taken : P) (k new : Link P) (more : Lines) (part : List Said)
+    → new.peer ≡ k.peer → unsent_in new.outbox ≡ unsent_in k.outbox → new.is_opened ≡ k.is_opened → new.has_ended ≡ k.has_ended
     → IsOpenAt remaining contents taken k more part → IsOpenAt remaining contents taken new more part
 open_with {P} remaining contents taken k new more part same left opened ended h = record {
   account = h.account;
@@ -70,44 +83,55 @@ open_with {P} remaining contents taken k new more part same left opened ended h 
 
 -- ---- its session is closed
 
-pub leaves : {P F : Type 0} (remaining contents : P → Option (List ℕ)) (sid : ℕ) (taken : P) (k : Link P) (f : Option F) (reply : List ℕ) (part more : List Said) → f ≡ None → IsParting remaining contents taken k (part ++ more)
+pub leaves : {P F : Type 0} (remaining contents : P → Option (List ℕ)) (sid : ℕ) (taken : P) (k : Link P) (f : Option F) (reply : List ℕ)
+    (part more : List Said) → f ≡ None → IsParting remaining contents taken k (part ++ more)
     → IsAt remaining contents sid taken k f (part ++ (more ++ bye_of sid reply ∷ []))
 leaves {P} {F} remaining contents sid taken k f reply part more e h =
     subst (λ (o : Option F). IsAt remaining contents sid taken k o (part ++ (more ++ bye_of sid reply ∷ []))) (sym e)
     (record { farewell = reply; lines = part ++ more; parting = h; said = sym (append_assoc part more (bye_of sid reply ∷ [])) })
 
-pub breaks : {P : Type 0} (remaining contents : P → Option (List ℕ)) (sid : ℕ) (taken : P) (k : Link P) (reply : List ℕ) (part more : List Said) → HasParted remaining contents taken k (part ++ more)
+pub breaks : {P : Type 0} (remaining contents : P → Option (List ℕ)) (sid : ℕ) (taken : P) (k : Link P) (reply : List ℕ)
+    (part more : List Said) → HasParted remaining contents taken k (part ++ more)
     → IsGone remaining contents sid taken (part ++ (more ++ bye_of sid reply ∷ []))
 breaks remaining contents sid taken k reply part more h =
-    subst (IsGone remaining contents sid taken) (append_assoc part more (bye_of sid reply ∷ [])) (gone remaining contents sid taken k reply (part ++ more) h)
+    subst (IsGone remaining contents sid taken) (append_assoc part more (bye_of sid reply ∷ [])) (gone remaining contents sid taken k reply
+    (part ++ more) h)
 
 -- it was closed before, and stays
-pub stays_closed : {P F G : Type 0} (remaining contents : P → Option (List ℕ)) (sid : ℕ) (taken : P) (k : Link P) (f : Option F) (g : Option G) (part : List Said) → f ≡ None → g ≡ None → IsAt remaining contents sid taken k f part
+pub stays_closed : {P F G : Type 0} (remaining contents : P → Option (List ℕ)) (sid : ℕ) (taken : P) (k : Link P) (f : Option F)
+    (g : Option G) (part : List Said) → f ≡ None → g ≡ None → IsAt remaining contents sid taken k f part
     → IsAt remaining contents sid taken k g (part ++ [])
 stays_closed {P} {F} {G} remaining contents sid taken k f g part none still h =
     none_more (λ l. IsAt remaining contents sid taken k g l) part
-    (subst (λ (o : Option G). IsAt remaining contents sid taken k o part) (sym still) (at_none remaining contents sid taken k f part none h))
+    (subst (λ (o : Option G). IsAt remaining contents sid taken k o part) (sym still)
+    (at_none remaining contents sid taken k f part none h))
 
 -- ---- all are gone
 
-pub each_gone : {P : Type 0} (remaining contents : P → Option (List ℕ)) (places : List (Option (Guest P))) (said : List Said) → AllStand remaining contents places said
-    → ((k : ℕ) → k < session_count → slice_get places k ≡ Some None) → (sid : ℕ) → IsSid sid → IsOfVisits remaining contents sid (part_of sid said)
+pub each_gone : {P : Type 0} (remaining contents : P → Option (List ℕ)) (places : List (Option (Guest P))) (said : List Said)
+    → AllStand remaining contents places said
+    → ((k : ℕ) → k < session_count → slice_get places k ≡ Some None) → (sid : ℕ) → IsSid sid
+    → IsOfVisits remaining contents sid (part_of sid said)
 each_gone remaining contents places said all free sid is =
     let same : suc (sid - 1) ≡ sid = omega (arith, is.0) in
     let there = free (sid - 1) (omega (arith, is.0, is.1)) in
-    subst (λ n. IsOfVisits remaining contents n (part_of n said)) same (all_gone remaining contents places said all (sid - 1) (slice_get_within places (sid - 1) None there) there)
+    subst (λ n. IsOfVisits remaining contents n (part_of n said)) same (all_gone remaining contents places said all (sid - 1)
+    (slice_get_within places (sid - 1) None there) there)
 
 -- ---- places
 
-pub at_sid : {P W : Type 0} (step : Steps W) (remaining contents : P → Option (List ℕ)) (old mid new : W) (places between : List (Option (Guest P))) (sid k : ℕ) (place now : Option (Guest P)) (more : List Said) → sid ≡ suc k
-    → Advances step remaining contents old places mid between → slice_get between k ≡ Some place → AreOf sid more → Exchanged step mid (exchanges_of more) new
+pub at_sid : {P W : Type 0} (step : Steps W) (remaining contents : P → Option (List ℕ)) (old mid new : W) (places between : List (Option
+    (Guest P))) (sid k : ℕ) (place now : Option (Guest P)) (more : List Said) → sid ≡ suc k
+    → Advances step remaining contents old places mid between → slice_get between k ≡ Some place → AreOf sid more
+    → Exchanged step mid (exchanges_of more) new
     → ((part : List Said) → Stands remaining contents sid place part → Stands remaining contents sid now (part ++ more))
     → Advances step remaining contents old places new (slice_set between k now)
 at_sid step remaining contents old mid new places between sid k place now more e h there own leads stands =
     at_place step remaining contents old mid new places between k place now more h there (subst (λ n. AreOf n more) e own) leads
     (λ part. subst (λ n. Stands remaining contents n place part → Stands remaining contents n now (part ++ more)) e (stands part))
 
-pub free_more : {P : Type 0} (places : List (Option (Guest P))) (at : ℕ) (new : Option (Guest P)) → new ≡ None → at < length places → ((k : ℕ) → k < at → slice_get places k ≡ Some None)
+pub free_more : {P : Type 0} (places : List (Option (Guest P))) (at : ℕ) (new : Option (Guest P)) → new ≡ None → at < length places
+    → ((k : ℕ) → k < at → slice_get places k ≡ Some None)
     → (k : ℕ) → k < at + 1 → slice_get (slice_set places at new) k ≡ Some None
 free_more {P} places at new none within free k below = by_place (same_or_not at k)
   where
@@ -123,7 +147,8 @@ got_replicate x zero k h = absurd (omega (arith, h))
 got_replicate x (suc n) zero h = refl
 got_replicate x (suc n) (suc k) h = got_replicate x n k (omega (arith, h))
 
-pub places_free : {P : Type 0} (remaining contents : P → Option (List ℕ)) (n : ℕ) (places : List (Option (Guest P))) → places ≡ replicate n None → AllStand remaining contents places []
+pub places_free : {P : Type 0} (remaining contents : P → Option (List ℕ)) (n : ℕ) (places : List (Option (Guest P)))
+    → places ≡ replicate n None → AllStand remaining contents places []
 places_free {P} remaining contents n places e =
     let none : Option (Guest P) = None in
     subst (λ (xs : List (Option (Guest P))). AllStand remaining contents xs []) (sym e)

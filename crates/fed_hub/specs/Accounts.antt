@@ -7,12 +7,12 @@ use Rattle.session_wire.specs.Run.{Steps}
 use Rattle.session_wire.specs.Exchanges.{Exchanged}
 use Rattle.fed_hub.specs.Said.{Said, exchanges_of, lines_in, told_in, part_of, bye_of, Opens, BeginsByOpening, before}
 
--- the two lines that a connection is told before it is closed for what it sent
+-- the two lines that are sent to a connection before it is closed for what it sent
 abbrev pub closing_lines : List ℕ
 closing_lines = codes "E 08P01 protocol_violation\nT CLOSED\n"
 
--- The bytes that were read of a connection; its lines that were answered, with their replies; what it is told at its end besides; the bytes
--- that were written to it, and those that are still to be written, or never are.
+-- The bytes that were read from a connection; its lines that were answered, with their replies; what is sent to it at its end besides; the
+-- bytes that were written to it, and those that are still to be written, or never are.
 pub record Account : Type 0 where
   pub bytes : List ℕ
   pub lines : List Said
@@ -24,8 +24,8 @@ pub record Account : Type 0 where
 abbrev pub LeavesLines : Account → Lines → Type 0
 LeavesLines a more = lines_of a.bytes ≡ before (lines_in a.lines) more
 
--- From when it was taken up to now so much was read of a connection and written to it. What it was told is that of its own lines, in order:
--- a prefix of it was written.
+-- From when a connection was taken up to now these bytes were read from it and written to it. What is sent to it is the replies to its own
+-- lines, in order, and what is sent at its end: a prefix of that was written.
 pub record Passed {P : Type 0} (remaining contents : P → Option (List ℕ)) (taken now : P) (a : Account) : Type 0 where
   pub read : Consumes (remaining taken) (remaining now) a.bytes
   pub wrote : Appends (contents taken) (contents now) a.written
@@ -68,8 +68,8 @@ abbrev pub IsOfVisits : {P : Type 0} → (P → Option (List ℕ)) → (P → Op
 IsOfVisits {P} remaining contents sid part =
     (visits : List (Visit P)) × AreVisits remaining contents visits × (part ≡ said_of sid visits)
 
--- One list of request lines with their replies leads by steps from old to new, and what was said in each session was said by the connections
--- that were this session, one after the other.
+-- One list of request lines with their replies leads by steps from old to new, and what was said in each session was said by the
+-- connections that were this session, one after the other.
 pub record ServesHub {P W : Type 0} (step : Steps W) (remaining contents : P → Option (List ℕ)) (old new : W) : Type 0 where
   pub said : List Said
   pub leads : Exchanged step old (exchanges_of said) new

@@ -1,7 +1,7 @@
 -- Replies as a connection gets them: without the number of its session.
 use Rattle.std.specs.Prelude.{ℕ, ◌==◌, Bool, true, false, if◌then◌else◌, List, [], ◌∷◌}
 
--- these bytes without what stands at the beginning of each line up to its first space, which goes too; at first in such a beginning, or not
+-- these bytes, where each line loses all up to its first space, and that; they begin with a line, or within one
 abbrev pub bare_from : Bool → List ℕ → List ℕ
 bare_from is_number [] = []
 bare_from true (b ∷ bs) = if b == 32 then bare_from false bs else bare_from true bs

@@ -1,4 +1,4 @@
--- What was read of a connection and not answered yet, and what it is told and was not written yet.
+-- What was read from a connection and not answered yet, and what is to be sent to it and was not written yet.
 use Rattle.std.specs.Prelude.{◌≡◌, ℕ, List, ◌++◌, drop, string_bytes}
 use Rattle.session_wire.specs.Lines.{Lines, line, rest, closed, lines_of}
 use Rattle.session_wire.specs.declared.lines.FoundLine.{FoundLine}
@@ -14,7 +14,7 @@ unread_in inbox = inbox.unread.items
 abbrev pub unsent_in : Outbox → List ℕ
 unsent_in outbox = drop outbox.sent outbox.bytes.items
 
--- this was found at the front of the old bytes, and leaves the new ones
+-- this is the first line of the old bytes, and leaves the new ones
 abbrev pub Takes : FoundLine → List ℕ → List ℕ → Type 0
 Takes (found.Line text) old new = lines_of old ≡ line (string_bytes text) (lines_of new)
 Takes found.Nothing old new = (lines_of old ≡ rest old) × (new ≡ old)

@@ -40,7 +40,7 @@ pub record HasParted {P : Type 0} (remaining contents : P → Option (List ℕ))
   pub said : part ≡ account.lines
   pub parts : Parts (remaining k.peer) account
 
--- None is, and what it is told still is to be written to it.
+-- None is, and what is to be sent still has to be written to it.
 pub record IsParting {P : Type 0} (remaining contents : P → Option (List ℕ)) (taken : P) (k : Link P) (part : List Said) : Type 0 where
   pub parted : HasParted remaining contents taken k part
   pub unsent : parted.account.unsent ≡ unsent_in k.outbox
@@ -51,7 +51,7 @@ Turns remaining contents GoesOn taken k part = IsOpen remaining contents taken k
 Turns remaining contents PartsNow taken k part = IsParting remaining contents taken k part
 Turns remaining contents Breaks taken k part = HasParted remaining contents taken k part
 
--- Its session was closed, and what it is told still is to be written to it.
+-- Its session was closed, and what is to be sent still has to be written to it.
 pub record IsLeaving {P : Type 0} (remaining contents : P → Option (List ℕ)) (sid : ℕ) (taken : P) (k : Link P)
     (part : List Said) : Type 0 where
   pub farewell : List ℕ

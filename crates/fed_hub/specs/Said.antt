@@ -1,4 +1,4 @@
--- What the connections of a hub said, and what each was told, in the one order in which they were answered.
+-- What the connections of a hub asked, and the replies, in the one order in which they were answered.
 use Rattle.std.specs.Prelude.{◌≡◌, ℕ, ◌==◌, if◌then◌else◌, List, [], ◌∷◌, ◌++◌, map, flat_map, codes, decimal}
 use Rattle.sql_meaning.specs.Requests.{opening}
 use Rattle.session_wire.specs.Lines.{Lines, line}
@@ -12,7 +12,7 @@ pub record Said : Type 0 where
   pub text : List ℕ
   pub reply : List ℕ
 
--- the request line of a session that a connection's line stands for
+-- the request line of a session for a connection's line
 abbrev pub numbered : ℕ → List ℕ → List ℕ
 numbered sid text = decimal sid ++ 32 ∷ text
 
@@ -23,7 +23,7 @@ exchange_of s = record { text = numbered s.sid s.text; reply = s.reply }
 abbrev pub exchanges_of : List Said → List Exchange
 exchanges_of said = map (λ (s : Said). exchange_of s) said
 
--- the lines of a connection, and what it is told of them
+-- the lines of a connection, and the replies as it gets them
 abbrev pub lines_in : List Said → List (List ℕ)
 lines_in said = map (λ (s : Said). s.text) said
 
@@ -40,7 +40,7 @@ abbrev pub AreOf : ℕ → List Said → Type 0
 AreOf sid [] = Unit {0}
 AreOf sid (s ∷ said) = (s.sid ≡ sid) × AreOf sid said
 
--- the closing of a session, with this reply, which no connection is told
+-- the closing of a session, with this reply, which is sent to no connection
 abbrev pub bye_of : ℕ → List ℕ → Said
 bye_of sid reply = record { sid = sid; text = codes "BYE"; reply = reply }
 

@@ -10,8 +10,8 @@ use Rattle.session_wire.specs.Runs.{KeepsCursors}
 use Rattle.fed_hub.specs.Said.{Said, exchanges_of, part_of}
 use Rattle.fed_hub.specs.Accounts.{IsOfVisits}
 
--- From this scene one list of request lines with their replies leads by steps of the SQL meaning to that one. What was said in each session
--- was said by the connections that were this session, one after the other. Each cursor keeps its tables over the lines of all.
+-- From this scene one list of request lines with their replies leads by steps of the SQL meaning to that one. What was said in each
+-- session was said by the connections that were this session, one after the other. Each cursor keeps its tables over the lines of all.
 pub record ServesScenes {P : Type 0} (remaining contents : P → Option (List ℕ)) (old new : Scene) : Type 0 where
   pub said : List Said
   pub leads : Exchanged SceneSteps old (exchanges_of said) new
@@ -22,4 +22,5 @@ pub record ServesScenes {P : Type 0} (remaining contents : P → Option (List �
 abbrev pub ServesWorlds : {W P : Type 0} → (W → BoxState) → (P → Option (List ℕ)) → (P → Option (List ℕ)) → Engine W → Engine W → Type 0
 ServesWorlds meaning remaining contents old new =
     (w : World) → Agrees (shown meaning old) w
-    → (after : World) × ServesScenes remaining contents (scene_of meaning old w) (scene_of meaning new after) × Agrees (shown meaning new) after
+    → (after : World) × ServesScenes remaining contents (scene_of meaning old w) (scene_of meaning new after)
+    × Agrees (shown meaning new) after

@@ -4,7 +4,7 @@ ghost use Rattle.fed_hub.specs.Bare.{bare};
 
 use med_value::NoMemory;
 
-// Puts a reply behind what is there, without the number that each of its lines begins with. Refused only for want of memory.
+// Puts a reply after what is there, without the number that each of its lines begins with. Fails only where memory was refused.
 pub(crate) fn put_bare(reply: &[u8], out: &mut Vec<u8>) -> Result<(), NoMemory>
     ensures told { OnOk result (out.new.items ≡ out.old.items ++ bare reply.now) }
     ensures longer { vec_len out.old ≤ vec_len out.new }

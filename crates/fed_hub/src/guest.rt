@@ -57,7 +57,7 @@ impl<P: Peer> Guest<P> {
     ghost use Rattle.fed_hub.specs.Said.{Said, AreOf, exchanges_of};
     ghost use Rattle.fed_hub.specs.Guests.{IsHere, IsGone, Fares};
 
-    // A connection of which nothing was read yet. Refused only for want of memory: then it is dropped.
+    // A connection of which nothing was read yet. Fails only where memory was refused: then it is dropped.
     pub fn new(alloc: Global, peer: P) -> Result<Guest<P>, NoMemory>
         ensures { (sid : ℕ) → IfOk result (λ guest. IsHere P.remaining P.contents sid peer guest []) }
     {
@@ -80,12 +80,12 @@ impl<P: Peer> Guest<P> {
         })
     }
 
-    // Whether it could go on at once.
+    // Returns whether it could go on at once.
     pub fn is_busy(&self) -> bool {
         self.farewell.is_some() && self.link.is_busy()
     }
 
-    // It was reported to be ready, and that its end comes or not.
+    // Notes that it was reported to be ready, and whether its end comes.
     pub fn wake(&mut self, ends: bool)
         ensures { (sid : ℕ) (taken : P) (part : List Said) → IsHere P.remaining P.contents sid taken self.old part
             → IsHere P.remaining P.contents sid taken self.new part }
@@ -154,7 +154,7 @@ impl<P: Peer> Guest<P> {
         }
     }
 
-    // Writes what it takes now of what it is told. Whether it did not fail.
+    // Writes as much of what is to be sent as it takes now. Returns whether it did not fail.
     fn send(&mut self) -> bool
         ensures { (sid : ℕ) (taken : P) (part : List Said) → IsHere P.remaining P.contents sid taken self.old part
             → IsHere P.remaining P.contents sid taken self.new part }

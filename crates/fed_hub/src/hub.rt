@@ -41,13 +41,14 @@ pub enum HubFault {
 
 /// Serves this number of connections, up to 256 of them at once, each as one session of the handler.
 ///
-/// A connection's session is its place, which is given back when it is let go; it is closed at the connection's end. Its lines are those of
-/// its own session without the number, and so are its replies. All that was asked of the handler is one list of request lines: what each
-/// session has of it is the lines of the connections that had it, one after the other, and behind each of them its closing. What a connection
-/// is told is the replies to its own lines, of which a prefix was written to it. Which connection is ready when, and which is taken, is any
-/// choice.
+/// A connection's session is its place, which is given back when it is let go; it is closed at the connection's end. Its lines are those
+/// of its own session without the number, and so are its replies. All that was asked of the handler is one list of request lines: what
+/// each session has of it is the lines of the connections that had it, one after the other, and after each of them its closing. What is
+/// sent to a connection is the replies to its own lines: a prefix of them was written to it. Which connection is ready when, and which is
+/// taken, is any choice.
 ///
-/// `NoMemory` where there is no room for its places, and `Wait` where a wait failed. However it ends, each connection was let go.
+/// Fails with `NoMemory` where memory was refused for its places, with `Wait` where a wait failed, and with `TooLong` after 2^64 - 1
+/// turns. However it ends, each connection was let go, and its session is closed.
 pub fn serve_peers<H: Handler, C: Peers>(
     alloc: Global,
     handler: &mut H,
@@ -105,7 +106,7 @@ fn serve_places<H: Handler, C: Peers>(
     Err(HubFault::TooLong)
 }
 
-// Notes what is reported to be ready. Whether a connection may be taken.
+// Notes what is reported to be ready. Returns whether a connection may be taken.
 fn wake_ready<C: Peers>(places: &mut Vec<Option<Guest<C::Peer>>>, peers: &mut C) -> bool
     ensures stand { (said : List Said) → AllStand C.Peer.remaining C.Peer.contents places.old.items said
         → AllStand C.Peer.remaining C.Peer.contents places.new.items said }

@@ -13,7 +13,7 @@ use std::alloc::Global;
 // Room for the first bytes, taken with a connection.
 const FIRST_ROOM: usize = 8_192;
 
-// Bytes that were read, of which whole lines are taken from the front.
+// Bytes that were read. Whole lines are taken from their beginning.
 #[derive(Drop)]
 pub(crate) struct Inbox {
     pub unread: BytesMut,
@@ -26,7 +26,7 @@ impl Inbox {
     ghost use Rattle.session_wire.specs.Lines.{lines_of, rest};
     ghost use Rattle.fed_hub.specs.Boxes.{unread_in, Takes};
 
-    // Nothing was read yet. Refused only for want of memory.
+    // Nothing was read yet. Fails only where memory was refused.
     pub fn new(alloc: Global) -> Result<Inbox, NoMemory>
         ensures { IfOk result (λ inbox. unread_in inbox ≡ []) }
     {
@@ -39,14 +39,14 @@ impl Inbox {
         }
     }
 
-    // Whether something may be taken: a whole line, or one that closes the connection.
+    // Returns whether something may be taken: a whole line, or one that closes the connection.
     pub fn has_some(&self) -> bool
         ensures { result ≡ false → lines_of (unread_in self.now) ≡ rest (unread_in self.now) }
     {
         !self.is_front
     }
 
-    // Puts in what was read. Refused only for want of memory.
+    // Puts in what was read. Fails only where memory was refused.
     pub fn put(&mut self, piece: &[u8]) -> Result<(), NoMemory>
         ensures ok { OnOk result (unread_in self.new ≡ unread_in self.old ++ piece.now) }
         ensures refused { OnErr result (unread_in self.new ≡ unread_in self.old) }
@@ -61,7 +61,7 @@ impl Inbox {
         Ok(())
     }
 
-    // Takes what stands at the front. Refused only for want of memory: of the bytes that are left nothing is promised then, nor behind a line
+    // Takes the first line. Fails only where memory was refused: then nothing is promised of the bytes that are left, nor after a line
     // that closes the connection.
     pub fn take(&mut self) -> Result<FoundLine, NoMemory>
         ensures { IfOk result (λ found. Takes found (unread_in self.old) (unread_in self.new)) }
@@ -79,7 +79,7 @@ impl Inbox {
     }
 }
 
-// Whether a piece ends no line behind so many bytes, and leaves it short enough.
+// Returns whether a piece after n held bytes ends no line, and leaves it short enough.
 fn is_more_of_line(held: usize, piece: &[u8]) -> bool
     ensures { result ≡ true → (list_any (λ b. b == 10) piece.now ≡ false) × (length piece.now ≤ line_limit - held) }
 {

@@ -23,7 +23,7 @@ const PIECE: usize = 8_192;
 // Where as many bytes are still to be written to a connection, none of its lines is answered.
 const MOST_UNSENT: usize = 1_048_576;
 
-// What a connection is told before it is closed for what it sent.
+// What is sent to a connection before it is closed for what it sent.
 const CLOSING: &[u8] = b"E 08P01 protocol_violation\nT CLOSED\n";
 
 // What became of a connection in its turn.
@@ -31,13 +31,13 @@ const CLOSING: &[u8] = b"E 08P01 protocol_violation\nT CLOSED\n";
 pub(crate) enum Turn {
     // It goes on.
     GoesOn,
-    // None of its lines is answered any more. What it is told still is to be written.
+    // None of its lines is answered any more. What is to be sent still has to be written.
     PartsNow,
     // It failed, or memory was refused.
     Breaks,
 }
 
-// A connection, and what stands between it and its session.
+// A connection, and what is between it and its session.
 #[derive(Drop)]
 pub(crate) struct Link<P> {
     pub peer: P,
@@ -55,7 +55,7 @@ pub(crate) struct Link<P> {
 }
 
 impl<P: Peer> Link<P> {
-    // Whether it could go on at once.
+    // Returns whether it could go on at once.
     pub fn is_busy(&self) -> bool {
         self.outbox.len() < MOST_UNSENT
             && (self.may_read || self.has_ended || self.inbox.has_some())
@@ -82,7 +82,7 @@ impl<P: Peer> Link<P> {
         }
     }
 
-    // Reads a piece, where it may be there, no line is left and what it is told is taken.
+    // Reads a piece, where one may be there, no line is left, and the connection takes what is sent.
     fn hear(&mut self) -> Turn
         ensures { (taken : P) (part : List Said) → IsOpen P.remaining P.contents taken self.old part
             → Turns P.remaining P.contents result taken self.new part }
@@ -114,7 +114,7 @@ impl<P: Peer> Link<P> {
         }
     }
 
-    // Answers one line, where one is left and what it is told is taken.
+    // Answers one line, where one is left and the connection takes what is sent.
     fn answer<H: Handler>(
         &mut self,
         alloc: Global,
@@ -178,7 +178,7 @@ impl<P: Peer> Link<P> {
         }
     }
 
-    // Tells it that it is closed.
+    // Sends that it is closed.
     fn close(&mut self) -> Turn
         ensures told { result ≡ Turn.PartsNow → unsent_in self.new.outbox ≡ unsent_in self.old.outbox ++ closing_lines }
         ensures same { self.new ≡ record self.old { outbox = self.new.outbox } }

@@ -1,4 +1,4 @@
-// What a connection is told and was not written yet.
+// What is to be sent to a connection and was not written yet.
 ghost use Rattle.std.specs.Prelude.{◌≤◌, vec_len};
 
 use crate::bare::put_bare;
@@ -6,7 +6,7 @@ use crate::peers::{NotNow, Peer};
 use med_value::NoMemory;
 use std::alloc::Global;
 
-// Bytes that are told, and how many of them were written.
+// Bytes that are to be sent, and how many of them were written.
 #[derive(Drop)]
 pub(crate) struct Outbox {
     pub bytes: Vec<u8>,
@@ -20,7 +20,7 @@ impl Outbox {
     ghost use Rattle.fed_hub.specs.Bare.{bare};
     ghost use Rattle.fed_hub.specs.Boxes.{unsent_in};
 
-    // Nothing is told yet.
+    // Nothing is to be sent yet.
     pub fn new(alloc: Global) -> Outbox
         ensures { unsent_in result ≡ [] }
     {
@@ -30,7 +30,7 @@ impl Outbox {
         }
     }
 
-    // How many bytes are to be written.
+    // Returns how many bytes are to be written.
     pub fn len(&self) -> usize
         ensures { result ≡ length (unsent_in self.now) }
     {
@@ -47,7 +47,7 @@ impl Outbox {
         }
     }
 
-    // Tells a reply without the number of its session. Refused only for want of memory.
+    // Adds a reply without the number of its session. Fails only where memory was refused.
     pub fn put_bare(&mut self, reply: &[u8]) -> Result<(), NoMemory>
         ensures { OnOk result (unsent_in self.new ≡ unsent_in self.old ++ bare reply.now) }
     {
@@ -55,7 +55,7 @@ impl Outbox {
         put_bare(reply, &mut self.bytes)
     }
 
-    // Tells these bytes. Refused only for want of memory.
+    // Adds these bytes. Fails only where memory was refused.
     pub fn put(&mut self, bytes: &[u8]) -> Result<(), NoMemory>
         ensures { OnOk result (unsent_in self.new ≡ unsent_in self.old ++ bytes.now) }
     {
@@ -63,7 +63,7 @@ impl Outbox {
         self.bytes.extend_from_slice(bytes).map_err(|_| NoMemory)
     }
 
-    // Writes as much as the connection takes now. `Later` where it takes no more yet, and `Failed` where it failed.
+    // Writes as much as the connection takes now. Fails with `Later` where it takes no more yet, and with `Failed` where it failed.
     pub fn send<P: Peer>(&mut self, peer: &mut P) -> Result<(), NotNow>
         ensures wrote { (front : List ℕ) × (unsent_in self.old ≡ front ++ unsent_in self.new)
             × Appends (P.contents peer.old) (P.contents peer.new) front }

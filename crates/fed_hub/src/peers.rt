@@ -24,18 +24,18 @@ pub trait Peer: Drop {
     /// The bytes that were written to it, where they are known.
     ghost contents: { Self → Option (List ℕ) };
 
-    /// Reads what is there: the bytes are put at the front of the piece, and the answer is how many.
+    /// Reads what is there into the beginning of the piece, and returns how many bytes that were.
     ///
-    /// Where the piece has room, no byte is answered only at the end. `Later` where nothing is there yet, and `Failed` where the connection
-    /// failed: then none was read.
+    /// Where the piece has room, it returns 0 only at the end. Fails with `Later` where nothing is there yet, and with `Failed` where the
+    /// connection failed: then none was read.
     fn read_now(&mut self, piece: &mut [u8]) -> Result<usize, NotNow>
         ensures bound { ReadsAtMost result piece.new }
         ensures bytes { ReadConsumes (remaining self.old) (remaining self.new) result piece.new }
         ensures kept { contents self.new ≡ contents self.old };
 
-    /// Writes as many of these bytes as it takes now, from the first on, and answers how many.
+    /// Writes as many of these bytes as it takes now, from the first on, and returns how many.
     ///
-    /// `Later` where it takes none yet, and `Failed` where the connection failed: then none was written.
+    /// Fails with `Later` where it takes none yet, and with `Failed` where the connection failed: then none was written.
     fn write_now(&mut self, bytes: &[u8]) -> Result<usize, NotNow>
         ensures bound { WritesAtMost result bytes.now }
         ensures bytes { WriteAppends (contents self.old) (contents self.new) result bytes.now }
@@ -70,12 +70,13 @@ pub trait Peers {
     /// A connection.
     type Peer: Peer;
 
-    /// Takes the next connection, which is known by this place from here on. `None` where none is there yet.
+    /// Takes the next connection, which is known by this place from here on. Returns `None` where none is there yet, and fails where none
+    /// could be taken.
     fn take(&mut self, place: usize) -> Result<Option<Self::Peer>, PeersFault>;
 
-    /// Waits until something may be ready. It does not wait where the hub is busy.
+    /// Waits until something may be ready. It does not wait where the hub is busy. Fails where the system cannot wait.
     fn wait(&mut self, is_busy: bool) -> Result<Waited, PeersFault>;
 
-    /// What else may be ready since the last wait, or `None`.
+    /// Returns what else may be ready since the last wait, or `None`.
     fn next_ready(&mut self) -> Option<Ready>;
 }

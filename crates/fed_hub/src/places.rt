@@ -13,13 +13,13 @@ use med_value::limits::SESSION_COUNT;
 use session_wire::Handler;
 use std::alloc::Global;
 
-// What a connection is told for which there is no place.
+// What is sent to a connection for which there is no place.
 const TURNED_AWAY: &[u8] = b"E 53300 too_many_connections\n";
 
 // The most connections that are taken before those that are there have their turn.
 const MOST_TAKEN: u32 = 64;
 
-// A place for each session, all free. Refused only for want of memory.
+// A place for each session, all free. Fails only where memory was refused.
 pub(crate) fn free_places<P: Peer>(alloc: Global) -> Result<Vec<Option<Guest<P>>>, NoMemory>
     ensures count { IfOk result (λ places. vec_len places ≡ session_count) }
     ensures free { IfOk result (λ places. AllStand P.remaining P.contents places.items []) }
@@ -31,7 +31,7 @@ pub(crate) fn free_places<P: Peer>(alloc: Global) -> Result<Vec<Option<Guest<P>>
     Ok(places)
 }
 
-// One turn of the connection in a place, where one is there. Whether it could go on at once.
+// One turn of the connection in a place, where one is there. Returns whether it could go on at once.
 fn turn_at<H: Handler, P: Peer>(
     alloc: Global,
     sid: Sid,
@@ -73,7 +73,7 @@ fn leave_at<H: Handler, P: Peer>(sid: Sid, place: &mut Option<Guest<P>>, handler
     }
 }
 
-// One turn of each connection, in order. Whether one of them could go on at once.
+// One turn of each connection, in order. Returns whether one of them could go on at once.
 pub(crate) fn turn_each<H: Handler, P: Peer>(
     alloc: Global,
     places: &mut Vec<Option<Guest<P>>>,
@@ -116,7 +116,7 @@ pub(crate) fn leave_each<H: Handler, P: Peer>(places: &mut Vec<Option<Guest<P>>>
     }
 }
 
-// It was reported that the connection in a place is ready.
+// Notes that the connection in a place was reported to be ready.
 pub(crate) fn wake_at<P: Peer>(places: &mut Vec<Option<Guest<P>>>, at: usize, ends: bool)
     ensures stand { (said : List Said) → AllStand P.remaining P.contents places.old.items said
         → AllStand P.remaining P.contents places.new.items said }
@@ -148,18 +148,18 @@ fn put_at<P: Peer>(alloc: Global, places: &mut Vec<Option<Guest<P>>>, at: usize,
     }
 }
 
-// The first free place.
+// Returns the first free place.
 fn free_place<P: Peer>(places: &Vec<Option<Guest<P>>>) -> Option<usize> {
     places.iter().position(|place| place.is_none())
 }
 
-// Whether no connection is there.
+// Returns whether no connection is there.
 pub(crate) fn are_free<P: Peer>(places: &Vec<Option<Guest<P>>>) -> bool {
     places.iter().all(|place| place.is_none())
 }
 
-// Takes connections that are there, no more than are left to be taken. One for which there is no place is told so, and closed. Whether one
-// more may be there.
+// Takes connections that are there, no more than are left to be taken. One for which there is no place is sent that, and is closed.
+// Returns whether one more may be there.
 pub(crate) fn take_some<C: Peers>(
     alloc: Global,
     places: &mut Vec<Option<Guest<C::Peer>>>,

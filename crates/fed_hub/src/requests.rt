@@ -12,7 +12,7 @@ use med_session::{NoRoom, Sid};
 use session_wire::{Handler, frame};
 use std::alloc::Global;
 
-// Whether a connection's line opens a session.
+// Returns whether a connection's line opens a session.
 pub(crate) fn opens(text: &str) -> bool
     ensures { IsTrue result ↔ Opens text.now }
 {
@@ -22,7 +22,7 @@ pub(crate) fn opens(text: &str) -> bool
     }
 }
 
-// The request line of a session that a connection's line stands for. Refused only for want of memory.
+// Returns the request line of a session for a connection's line. Fails only where memory was refused.
 fn numbered(alloc: Global, sid: Sid, text: &str) -> Result<String, NoRoom>
     ensures { IfOk result (λ line. string_bytes line ≡ numbered sid.number text.now) }
 {
@@ -57,9 +57,9 @@ fn write_refusal(sid: u16, out: &mut Vec<u8>) -> Result<(), NoRoom>
         .map_err(|_| NoRoom)
 }
 
-// Asks what a connection's line asks in its session. The reply is all that stands in `reply` then.
+// Asks what a connection's line asks in its session. `reply` has the reply then, and nothing else.
 //
-// Refused only where memory was: then nothing was done.
+// Fails only where memory was refused: then nothing was done.
 pub(crate) fn ask<H: Handler>(
     alloc: Global,
     sid: Sid,

@@ -27,7 +27,7 @@ pub fn exchanged_worlds_follow<W: Wrapper2>()
 ///
 /// For each world that agrees with the engine, the lines of all connections with their replies are one list that leads by steps of the SQL
 /// meaning to a world that agrees with the engine after; of each session it has the lines of the connections that were this session, and
-/// behind each of them its closing. Each cursor keeps its tables over the lines of all, and its FETCHes give one answer.
+/// after each of them its closing. Each cursor keeps its tables over the lines of all, and its FETCHes give one answer.
 pub fn serve_hub<B: Wrapper2, C: Peers>(
     alloc: Global,
     engine: &mut Engine<B>,

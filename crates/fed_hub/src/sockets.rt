@@ -1,4 +1,4 @@
-//! Connections over TCP, many at once: the one body of `Peers` that the program has. No clause says what a socket gives or takes, nor what
+//! Connections over TCP, many at once: the one body of `Peers` beside those of tests. No clause says what a socket gives or takes, nor what
 //! the system reports: these calls are trusted.
 ghost use Rattle.std.specs.Prelude.{◌≡◌, IfErr};
 
@@ -41,7 +41,7 @@ pub struct Sockets {
 impl Sockets {
     /// Listens on this port of 127.0.0.1. A wait for this long in which nothing is ready is silence, where a time is given.
     ///
-    /// Refused where the port cannot be bound, where the system waits for nothing more, or for want of memory.
+    /// Fails where the port cannot be bound, where the system waits for nothing more, and where memory was refused.
     pub fn bind<N: Net>(
         alloc: Global,
         net: &N,
@@ -79,7 +79,7 @@ fn listening<N: Net>(
     })
 }
 
-// Whether a call is to be made again, or why it did nothing.
+// Returns why a call did nothing, or `None` where it is to be made again.
 fn told(kind: ErrorKind) -> Option<NotNow> {
     match kind {
         ErrorKind::Interrupted => None,

@@ -10,5 +10,6 @@ returns-in-Some-clause-said g c =
       said.1,
       said.2,
       λ part h. subst (λ o. Stands g.P.Peer.remaining g.P.Peer.contents c.args.sid.number o (part ++ said.0)) (sym c.take.ensures.after)
-          (turned_goes _ _ c.args.sid.number c.args.place.now c.in-Some.guest said.0 (sym c.take.ensures.value ∙ c.in-Some.is) said.3 part h),
+          (turned_goes _ _ c.args.sid.number c.args.place.now c.in-Some.guest said.0 (sym c.take.ensures.value
+          ∙ c.in-Some.is) said.3 part h),
     )

@@ -5,6 +5,7 @@ use Rattle.fed_hub.proofs.places.take_some.Given as goal
 
 abbrev pub invariant-loop : goal.invariant-loop
 invariant-loop g l = record {
-  stand : (said : List Said) → AllStand g.C.Peer.Peer.remaining g.C.Peer.Peer.contents l.fn.places.items said → AllStand g.C.Peer.Peer.remaining g.C.Peer.Peer.contents l.places.items said;
+  stand : (said : List Said) → AllStand g.C.Peer.Peer.remaining g.C.Peer.Peer.contents l.fn.places.items said
+      → AllStand g.C.Peer.Peer.remaining g.C.Peer.Peer.contents l.places.items said;
   count : vec_len l.places ≡ vec_len l.fn.places;
 }

@@ -5,8 +5,13 @@ use Rattle.fed_hub.proofs.places.turn_at.Goals as goal
 
 pub returns-in-Stays-clause-said : goal.returns-in-Stays-clause-said
 returns-in-Stays-clause-said g c =
-    let said = c.in-Stays.ensures.said in
-    (said.0, said.1, said.2, turned_stays _ _ c.args.sid.number c.args.place.now c.in-Some.guest c.turn.new.self said.0 (sym c.take.ensures.value ∙ c.in-Some.is) said.3)
+    let said = c.in-Stays.ensures.said in (
+      said.0,
+      said.1,
+      said.2,
+      turned_stays _ _ c.args.sid.number c.args.place.now c.in-Some.guest c.turn.new.self said.0
+          (sym c.take.ensures.value ∙ c.in-Some.is) said.3,
+    )
 
 pub returns-in-Goes-clause-said : goal.returns-in-Goes-clause-said
 returns-in-Goes-clause-said g c =
@@ -15,5 +20,6 @@ returns-in-Goes-clause-said g c =
       said.1,
       said.2,
       λ part h. subst (λ o. Stands g.P.Peer.remaining g.P.Peer.contents c.args.sid.number o (part ++ said.0)) (sym c.take.ensures.after)
-          (turned_goes _ _ c.args.sid.number c.args.place.now c.in-Some.guest said.0 (sym c.take.ensures.value ∙ c.in-Some.is) said.3 part h),
+          (turned_goes _ _ c.args.sid.number c.args.place.now c.in-Some.guest said.0 (sym c.take.ensures.value
+          ∙ c.in-Some.is) said.3 part h),
     )

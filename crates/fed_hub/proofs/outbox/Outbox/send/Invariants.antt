@@ -5,7 +5,8 @@ use Rattle.fed_hub.proofs.outbox.Outbox.send.Given as goal
 
 abbrev pub invariant-loop-self : goal.invariant-loop-self
 invariant-loop-self g l =
-    ((front : List ℕ) × (unsent_in l.fn.self ≡ front ++ unsent_in l.self) × Appends (g.P.Peer.contents l.fn.peer) (g.P.Peer.contents l.peer) front)
+    ((front : List ℕ) × (unsent_in l.fn.self ≡ front ++ unsent_in l.self) × Appends (g.P.Peer.contents l.fn.peer)
+    (g.P.Peer.contents l.peer) front)
     × (g.P.Peer.remaining l.peer ≡ g.P.Peer.remaining l.fn.peer)
 
 abbrev pub decreases-loop-self : goal.decreases-loop-self
