@@ -1,0 +1,11 @@
+use Rattle.std.proofs.Common.{◌≡◌, vec_len}
+use Rattle.med_value.specs.Limits.{session_count}
+use Rattle.fed_hub.specs.Places.{Advances}
+use Rattle.fed_hub.proofs.hub.serve_places.Given as goal
+
+abbrev pub invariant-loop : goal.invariant-loop
+invariant-loop g l = record {
+  said : Advances g.H.Handler.step g.C.Peer.Peer.remaining g.C.Peer.Peer.contents l.fn.handler l.fn.places.items l.handler l.places.items;
+  count : vec_len l.places ≡ session_count;
+  sound : g.H.Handler.sound l.handler;
+}

@@ -1,0 +1,20 @@
+use Rattle.std.proofs.Common.{vec_len, sym, ap, subst, ◌∙◌}
+use Rattle.fed_hub.specs.Places.{AllStand}
+use Rattle.fed_hub.proofs.places.take_some.Goals.{in-Some, in-None}
+use Rattle.fed_hub.proofs.places.take_some.Goals as goal
+
+pub loop-preserved : goal.loop-preserved
+loop-preserved g c =
+    let inv = c.loop.invariant in
+    elim c.match-free.branch [
+      | in-Some w ↦ record {
+        stand = λ said all. subst (λ v. AllStand g.C.Peer.Peer.remaining g.C.Peer.Peer.contents v.items said) (sym w.places-is)
+            (w.put_at.ensures.stand said (inv.stand said all));
+        count = ap (λ v. vec_len v) w.places-is ∙ w.put_at.ensures.count ∙ inv.count;
+      }
+      | in-None w ↦ record {
+        stand = λ said all. subst (λ v. AllStand g.C.Peer.Peer.remaining g.C.Peer.Peer.contents v.items said) (sym w.places-is)
+            (inv.stand said all);
+        count = ap (λ v. vec_len v) w.places-is ∙ inv.count;
+      }
+    ]
