@@ -1,4 +1,4 @@
--- What the connections of a hub asked, and the replies, in the one order in which they were answered.
+-- What the connections of a hub requested, and the replies, in the one order in which they were answered.
 use Rattle.std.specs.Prelude.{◌≡◌, ℕ, ◌==◌, if◌then◌else◌, List, [], ◌∷◌, ◌++◌, map, flat_map, codes, decimal}
 use Rattle.sql_meaning.specs.Requests.{opening}
 use Rattle.session_wire.specs.Lines.{Lines, line}

@@ -42,7 +42,7 @@ pub enum HubFault {
 /// Serves this number of connections, up to 256 of them at once, each as one session of the handler.
 ///
 /// A connection's session is its place, which is given back when it is let go; it is closed at the connection's end. Its lines are those
-/// of its own session without the number, and so are its replies. All that was asked of the handler is one list of request lines: what
+/// of its own session without the number, and so are its replies. All that was requested of the handler is one list of request lines: what
 /// each session has of it is the lines of the connections that had it, one after the other, and after each of them its closing. What is
 /// sent to a connection is the replies to its own lines: a prefix of them was written to it. Which connection is ready when, and which is
 /// taken, is any choice.

@@ -57,7 +57,7 @@ fn write_refusal(sid: u16, out: &mut Vec<u8>) -> Result<(), NoRoom>
         .map_err(|_| NoRoom)
 }
 
-// Asks what a connection's line asks in its session. `reply` has the reply then, and nothing else.
+// Requests in a connection's session what its line says. `reply` has the reply then, and nothing else.
 //
 // Fails only where memory was refused: then nothing was done.
 pub(crate) fn ask<H: Handler>(
