@@ -28,7 +28,7 @@ sent_more all front bytes sent count e =
 
 -- ---- accounts
 
--- the account of a connection of which nothing is known yet
+-- the account of a connection before anything is known of it
 abbrev pub no_account : Account
 no_account = record { bytes = []; lines = []; parting = []; written = []; unsent = [] }
 
@@ -83,7 +83,7 @@ passed_line remaining contents taken now a s b none opens begun p = record {
   begins = begins_more a.lines s b p.begins opens begun;
 }
 
--- it is told at its end why
+-- at its end it is sent the reason
 abbrev pub with_closing : Account → Account
 with_closing a = record a { parting = closing_lines; unsent = a.unsent ++ closing_lines }
 
@@ -176,7 +176,7 @@ answered remaining contents taken k new s more part opens same put opened ended 
     begun_more [] = tt
     begun_more (x ∷ xs) = tt
 
--- a line of it was answered, which it cannot be told
+-- a line of it was answered, and the reply cannot be sent
 pub answered_last : {P : Type 0} (remaining contents : P → Option (List ℕ)) (taken : P) (k new : Link P) (s : Said) (more : Lines)
     (part : List Said) → (k.is_opened ≡ false → Opens s.text)
     → new.peer ≡ k.peer → IsOpenAt remaining contents taken k (line s.text more) part
@@ -203,7 +203,7 @@ at_end remaining contents taken k part ended none h = record {
   unsent = h.unsent;
 }
 
--- it is told that it is closed, for a line that closes it
+-- it is sent that it is closed, for a line that closes it
 pub closed_by : {P : Type 0} (remaining contents : P → Option (List ℕ)) (taken : P) (k new : Link P) (part : List Said) → new.peer ≡ k.peer
     → unsent_in new.outbox ≡ unsent_in k.outbox ++ closing_lines
     → IsOpenAt remaining contents taken k closed part → IsParting remaining contents taken new part
@@ -235,7 +235,7 @@ closed_at_first remaining contents taken k new text more part fresh other same p
   unsent = ap (λ l. l ++ closing_lines) h.unsent ∙ sym put;
 }
 
--- some of what it is told was written
+-- some of what it is sent was written
 pub sent_open : {P : Type 0} (remaining contents : P → Option (List ℕ)) (taken : P) (k new : Link P) (front : List ℕ) (part : List Said)
     → unsent_in k.outbox ≡ front ++ unsent_in new.outbox
     → Appends (contents k.peer) (contents new.peer) front → remaining new.peer ≡ remaining k.peer → unread_in new.inbox ≡ unread_in k.inbox

@@ -57,7 +57,7 @@ impl<P: Peer> Guest<P> {
     ghost use Rattle.fed_hub.specs.Said.{Said, AreOf, exchanges_of};
     ghost use Rattle.fed_hub.specs.Guests.{IsHere, IsGone, Fares};
 
-    // A connection of which nothing was read yet. Fails only where memory was refused: then it is dropped.
+    // A connection before anything was read from it. Fails only where memory was refused: then it is dropped.
     pub fn new(alloc: Global, peer: P) -> Result<Guest<P>, NoMemory>
         ensures { (sid : ℕ) → IfOk result (λ guest. IsHere P.remaining P.contents sid peer guest []) }
     {

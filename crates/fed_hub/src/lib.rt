@@ -12,8 +12,6 @@ mod places;
 mod requests;
 pub mod serving;
 pub mod sockets;
-#[cfg(test)]
-mod tests;
 
 pub use hub::{HubEnd, HubFault, serve_peers};
 pub use peers::{NotNow, Peer, Peers, PeersFault, Ready, Waited};

@@ -1,7 +1,7 @@
 //! A hub over connections in memory: what each is sent, and that each session is closed.
 ghost use Rattle.std.specs.Prelude.{None, ⊤};
 
-use crate::{HubEnd, HubFault, NotNow, Peer, Peers, PeersFault, Ready, Waited, serve_peers};
+use fed_hub::{HubEnd, HubFault, NotNow, Peer, Peers, PeersFault, Ready, Waited, serve_peers};
 use med_session::{NoRoom, Request, Sid};
 use session_wire::Handler;
 use std::alloc::Global;
@@ -121,7 +121,7 @@ impl<'a> Peers for Wires<'a> {
     }
 }
 
-// Serves one connection that sends this and wants this sent, until it was let go or after so many waits, and wants one session closed.
+// Serves one connection that sends this and wants this sent, until it was let go or after this number of waits, and wants one session closed.
 fn serve_one(
     alloc: Global,
     sends: &[u8],
