@@ -121,7 +121,7 @@ impl<'a> Peers for Wires<'a> {
     }
 }
 
-// Serves one connection that sends this and wants this sent, until it was let go or after this number of waits, and wants one session closed.
+// Serves one connection that sends this and wants this sent, until it is let go or this number of waits is over. One session is closed.
 fn serve_one(
     alloc: Global,
     sends: &[u8],
